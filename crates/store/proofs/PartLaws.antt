@@ -1,0 +1,246 @@
+-- Laws of a part and of a list with a part replaced. Assumes nothing.
+use mathlib.Core.Path.{_≡_, refl, sym, ap, ap₂, _∙_}
+use mathlib.Core.List.{List, [], _∷_, _++_, append-assoc, append-nil}
+use mathlib.Core.Logic.{_⊎_, inl, inr, ⊎-elim}
+use Prim.Native.Nat.{ℕ, zero, suc, _+_, _-_, _*_, _/_, _%_, _≤_, _<_, zero-le, suc-le-suc}
+use native.Mathlib.Nat.{sub-zero, zero-sub, suc-sub-suc, add-zero, add-assoc, add-sub-of-le, min-eq-left}
+use native.Mathlib.Numerals.{add-one}
+use native.Mathlib.Omega.{arith}
+use borrow.Rule.Slice.PartMut.{midOf, putMid}
+use lib.ListN.{length, getD, set, take, drop, length-append, length-take, length-drop, List·getD-append, take-append-drop, replicate, length-replicate, replicate-append-replicate}
+use lib.Seq.{length-take-le, getD-take, getD-drop, getD-append-add, ext-getD, take-set-lt, drop-set-add, take-at, drop-at, set-at, drop-cons, take-suc, drop-drop, take-take, append-snoc, take-nil}
+use Rattle.store.specs.Le.{leAt, bytesLE, putAt}
+use Rattle.store.specs.Part.{part, splice}
+use Rattle.store.proofs.LeLaws.{leAt-ext, length-putAt, getD-putAt-below, getD-putAt-above}
+
+pub le-or-lt : (a b : ℕ) → (a ≤ b) ⊎ (b < a)
+le-or-lt zero b = inl zero-le
+le-or-lt (suc a) zero = inr (suc-le-suc zero-le)
+le-or-lt (suc a) (suc b) = ⊎-elim (λ p. inl (suc-le-suc p)) (λ q. inr (suc-le-suc q)) (le-or-lt a b)
+
+-- ---- what the borrow checker says of `&s[a..e]` and of `&mut s[a..e]`, with `let e = a + n;`
+
+pub lent : (a n : ℕ) (s : List ℕ) → midOf a (a + n - a) s ≡ part a n s
+unfolding part
+lent a n s = let e : a + n - a ≡ n = omega arith in rw e
+
+pub back : (a n : ℕ) (s y : List ℕ) → putMid a (a + n - a) s y ≡ splice a n y s
+unfolding splice
+back a n s y = let e : a + n - a ≡ n = omega arith in rw e
+
+-- ---- a part
+
+pub getD-part : (a n : ℕ) (s : List ℕ) (i : ℕ) → i < n → getD (part a n s) i 0 ≡ getD s (a + i) 0
+unfolding part
+getD-part a n s i h = rw (getD-take, getD-drop)
+
+pub length-part : (a n : ℕ) (s : List ℕ) → a + n ≤ length s → length (part a n s) ≡ n
+unfolding part
+length-part a n s h = length-take-le n (drop a s) (rw length-drop (omega arith))
+
+pub leAt-part : (w a n : ℕ) (s : List ℕ) (b : ℕ) → b + w ≤ n → leAt w (part a n s) b ≡ leAt w s (a + b)
+leAt-part w a n s b h = leAt-ext w (part a n s) s b (a + b) (λ k l. getD-part a n s (b + k) (omega arith) ∙ ap (λ (i : ℕ). getD s i 0) (sym (add-assoc a b k)))
+
+set-part : (a n : ℕ) (s : List ℕ) (b v : ℕ) → b < n → set (part a n s) b v ≡ part a n (set s (a + b) v)
+unfolding part
+set-part a n s b v h = rw (drop-set-add, take-set-lt)
+
+-- a store in a part is a store in the whole
+pub putAt-part : (w a n : ℕ) (s : List ℕ) (b x : ℕ) → b + w ≤ n → putAt w (part a n s) b x ≡ part a n (putAt w s (a + b) x)
+unfolding putAt
+putAt-part zero a n s b x h = refl
+putAt-part (suc w) a n s b x h =
+    let e : a + b + 1 ≡ a + (b + 1) = omega arith in
+    rw (set-part a n s b (x % 256) (omega arith), putAt-part w a n (set s (a + b) (x % 256)) (b + 1) (x / 256) (omega arith), e)
+
+-- two parts are equal by their elements
+part-length-eq : (a n : ℕ) (s t : List ℕ) → length s ≡ length t → length (part a n s) ≡ length (part a n t)
+unfolding part
+part-length-eq a n s t e = rw (length-take, length-take, length-drop, length-drop, e)
+
+part-less : (a n : ℕ) (s : List ℕ) (i : ℕ) → i < length (part a n s) → i < n
+unfolding part
+part-less a n s i b = omega (arith, length-take n (drop a s))
+
+pub part-ext : (a n : ℕ) (s t : List ℕ) → length s ≡ length t → ((i : ℕ) → i < n → getD s (a + i) 0 ≡ getD t (a + i) 0) → part a n s ≡ part a n t
+part-ext a n s t e h =
+    ext-getD 0 (part a n s) (part a n t) (part-length-eq a n s t e) (λ i b.
+    let l : i < n = part-less a n s i b in
+    getD-part a n s i l ∙ h i l ∙ sym (getD-part a n t i l))
+
+-- ---- a part replaced
+
+module _ (a n : ℕ) (x s : List ℕ) (fits : a + n ≤ length s) (len : length x ≡ n) where
+  pub length-splice : length (splice a n x s) ≡ length s
+  unfolding splice
+  length-splice = simp (length-append, length-take, length-drop) (omega arith)
+
+  pub getD-splice-below : (i : ℕ) → i < a → getD (splice a n x s) i 0 ≡ getD s i 0
+  unfolding splice
+  getD-splice-below i h =
+      List·getD-append (take a s) (x ++ drop n (drop a s)) 0 i (rw (length-take-le a s (omega arith)) h) ∙ getD-take a s i 0 h
+
+  pub getD-splice-in : (i : ℕ) → i < n → getD (splice a n x s) (a + i) 0 ≡ getD x i 0
+  unfolding splice
+  getD-splice-in i h =
+      let e : length (take a s) ≡ a = length-take-le a s (omega arith) in
+      ap (λ (k : ℕ). getD (take a s ++ (x ++ drop n (drop a s))) (k + i) 0) (sym e)
+      ∙ getD-append-add (take a s) (x ++ drop n (drop a s)) i 0
+      ∙ List·getD-append x (drop n (drop a s)) 0 i (omega arith)
+
+  pub getD-splice-above : (i : ℕ) → a + n ≤ i → getD (splice a n x s) i 0 ≡ getD s i 0
+  unfolding splice
+  getD-splice-above i h =
+      let e : length (take a s) ≡ a = length-take-le a s (omega arith) in
+      let j : i ≡ length (take a s) + (length x + (i - a - n)) = omega arith in
+      ap (λ (k : ℕ). getD (take a s ++ (x ++ drop n (drop a s))) k 0) j
+      ∙ getD-append-add (take a s) (x ++ drop n (drop a s)) (length x + (i - a - n)) 0
+      ∙ getD-append-add x (drop n (drop a s)) (i - a - n) 0
+      ∙ getD-drop n (drop a s) (i - a - n) 0
+      ∙ getD-drop a s (n + (i - a - n)) 0
+      ∙ ap (λ (k : ℕ). getD s k 0) (omega arith)
+
+  pub part-splice : part a n (splice a n x s) ≡ x
+  unfolding part splice
+  part-splice = rw (drop-at (take a s) (x ++ drop n (drop a s)) a (length-take-le a s (omega arith)), take-at x (drop n (drop a s)) n len)
+
+  pub part-splice-below : (b m : ℕ) → b + m ≤ a → part b m (splice a n x s) ≡ part b m s
+  part-splice-below b m h = part-ext b m (splice a n x s) s length-splice (λ i l. getD-splice-below (b + i) (omega arith))
+
+  pub part-splice-above : (b m : ℕ) → a + n ≤ b → part b m (splice a n x s) ≡ part b m s
+  part-splice-above b m h = part-ext b m (splice a n x s) s length-splice (λ i l. getD-splice-above (b + i) (omega arith))
+
+  splice-inner : (t : List ℕ) → part a n t ≡ x → (i : ℕ) → a ≤ i → i < a + n → getD t i 0 ≡ getD (splice a n x s) i 0
+  splice-inner t mid i h h2 =
+      let e : i ≡ a + (i - a) = omega arith in
+      ap (λ (j : ℕ). getD t j 0) e
+      ∙ sym (getD-part a n t (i - a) (omega arith))
+      ∙ ap (λ (l : List ℕ). getD l (i - a) 0) mid
+      ∙ sym (getD-splice-in (i - a) (omega arith))
+      ∙ ap (λ (j : ℕ). getD (splice a n x s) j 0) (sym e)
+
+  -- a list that is x in the part and s elsewhere
+  pub splice-unique : (t : List ℕ) → length t ≡ length s → ((i : ℕ) → i < a → getD t i 0 ≡ getD s i 0) → part a n t ≡ x
+      → ((i : ℕ) → a + n ≤ i → i < length s → getD t i 0 ≡ getD s i 0) → t ≡ splice a n x s
+  splice-unique t e lo mid hi =
+      ext-getD 0 t (splice a n x s) (e ∙ sym length-splice) (λ i b.
+      ⊎-elim
+      (λ (h : a ≤ i). ⊎-elim
+      (λ (h2 : a + n ≤ i). hi i h2 (omega arith) ∙ sym (getD-splice-above i h2))
+      (λ (h2 : i < a + n). splice-inner t mid i h h2)
+      (le-or-lt (a + n) i))
+      (λ (h : i < a). lo i h ∙ sym (getD-splice-below i h))
+      (le-or-lt a i))
+
+-- a store in the whole, within a part, is that part replaced
+pub putAt-splice : (w a n : ℕ) (s : List ℕ) (b x : ℕ) → a + n ≤ length s → b + w ≤ n → putAt w s (a + b) x ≡ splice a n (putAt w (part a n s) b x) s
+putAt-splice w a n s b x fits h =
+    splice-unique a n (putAt w (part a n s) b x) s fits (length-putAt w (part a n s) b x ∙ length-part a n s fits)
+    (putAt w s (a + b) x) (length-putAt w s (a + b) x)
+    (λ i l. getD-putAt-below w s (a + b) x i (omega arith))
+    (sym (putAt-part w a n s b x h))
+    (λ i l k. getD-putAt-above w s (a + b) x i (omega arith))
+
+pub splice-part : (a n : ℕ) (s : List ℕ) → splice a n (part a n s) s ≡ s
+unfolding splice part
+splice-part a n s = rw (take-append-drop, take-append-drop)
+
+-- a part replaced twice
+pub splice-splice : (a n : ℕ) (x y s : List ℕ) → a + n ≤ length s → length x ≡ n → splice a n y (splice a n x s) ≡ splice a n y s
+unfolding splice
+splice-splice a n x y s fits len =
+    let e : length (take a s) ≡ a = length-take-le a s (omega arith) in
+    rw (take-at (take a s) (x ++ drop n (drop a s)) a e, drop-at (take a s) (x ++ drop n (drop a s)) a e, drop-at x (drop n (drop a s)) n len)
+
+-- ---- a part that a loop writes element by element
+
+pub splice-none : (a : ℕ) (s : List ℕ) → splice a 0 [] s ≡ s
+unfolding splice
+splice-none a s = take-append-drop a s
+
+-- one more element written: the n elements become n + 1
+pub splice-snoc : (a n : ℕ) (x s : List ℕ) (v : ℕ) → a + n < length s → length x ≡ n → set (splice a n x s) (a + n) v ≡ splice a (n + 1) (x ++ (v ∷ [])) s
+unfolding splice
+splice-snoc a n x s v h len =
+    let e : length (take a s) ≡ a = length-take-le a s (omega arith) in
+    let el : length (take a s ++ x) ≡ a + n = length-append (take a s) x ∙ ap₂ (λ (i j : ℕ). i + j) e len in
+    let hd : n < length (drop a s) = rw length-drop (omega arith) in
+    rw (drop-cons (drop a s) n 0 hd, ← append-assoc, set-at (take a s ++ x) (getD (drop a s) n 0) (drop (suc n) (drop a s)) v (a + n) el, add-one)
+    (simp append-assoc)
+
+pub replicate-snoc : (n v : ℕ) → replicate n v ++ (v ∷ []) ≡ replicate (n + 1) v
+replicate-snoc n v = replicate-append-replicate n 1 v
+
+pub part-snoc : (f n : ℕ) (s : List ℕ) → f + n < length s → part f n s ++ (getD s (f + n) 0 ∷ []) ≡ part f (n + 1) s
+unfolding part
+part-snoc f n s h =
+    let hd : n < length (drop f s) = rw length-drop (omega arith) in
+    rw (add-one, take-suc (drop f s) n 0 hd, getD-drop)
+
+-- a turn of a loop that writes one value
+pub clear-step : (a i v : ℕ) (s : List ℕ) → a + i < length s → set (splice a i (replicate i v) s) (a + i) v ≡ splice a (i + 1) (replicate (i + 1) v) s
+clear-step a i v s h = splice-snoc a i (replicate i v) s v h (length-replicate i v) ∙ ap (λ (x : List ℕ). splice a (i + 1) x s) (replicate-snoc i v)
+
+-- a turn of a loop that copies
+pub copy-step : (a f i : ℕ) (t s : List ℕ) → a + i < length s → f + i < length t → set (splice a i (part f i t) s) (a + i) (getD t (f + i) 0) ≡ splice a (i + 1) (part f (i + 1) t) s
+copy-step a f i t s h k =
+    splice-snoc a i (part f i t) s (getD t (f + i) 0) h (length-part f i t (omega arith)) ∙ ap (λ (x : List ℕ). splice a (i + 1) x s) (part-snoc f i t k)
+
+-- ---- a part of a part
+
+drop-take : (b n : ℕ) (s : List ℕ) → drop b (take n s) ≡ take (n - b) (drop b s)
+drop-take zero n s = rw sub-zero
+drop-take (suc b) zero s = rw zero-sub
+drop-take (suc b) (suc n) [] = sym (take-nil (suc n - suc b))
+drop-take (suc b) (suc n) (x ∷ s) = rw suc-sub-suc (drop-take b n s)
+
+pub part-part : (a n b m : ℕ) (s : List ℕ) → b + m ≤ n → part b m (part a n s) ≡ part (a + b) m s
+unfolding part
+part-part a n b m s h =
+    rw (drop-take b n (drop a s), drop-drop, take-take m (n - b) (drop (a + b) s) (omega arith))
+
+-- what was replaced in the whole, seen in a part around it
+pub part-around : (a n b m : ℕ) (x s : List ℕ) → a + n ≤ length s → b + m ≤ n → length x ≡ m → part a n (splice (a + b) m x s) ≡ splice b m x (part a n s)
+part-around a n b m x s fits h len =
+    let f : a + b + m ≤ length s = omega arith in
+    let ls : length (splice (a + b) m x s) ≡ length s = length-splice (a + b) m x s f len in
+    let lp : length (part a n s) ≡ n = length-part a n s fits in
+    splice-unique b m x (part a n s) (omega arith) len
+    (part a n (splice (a + b) m x s)) (length-part a n (splice (a + b) m x s) (omega arith) ∙ sym lp)
+    (λ i l. getD-part a n (splice (a + b) m x s) i (omega arith) ∙ getD-splice-below (a + b) m x s f len (a + i) (omega arith) ∙ sym (getD-part a n s i (omega arith)))
+    (part-part a n b m (splice (a + b) m x s) h ∙ part-splice (a + b) m x s f len)
+    (λ i l k. getD-part a n (splice (a + b) m x s) i (omega arith) ∙ getD-splice-above (a + b) m x s f len (a + i) (omega arith) ∙ sym (getD-part a n s i (omega arith)))
+
+-- a part replaced within a part is replaced in the whole
+pub splice-within : (a n b m : ℕ) (x s : List ℕ) → a + n ≤ length s → b + m ≤ n → length x ≡ m → splice a n (splice b m x (part a n s)) s ≡ splice (a + b) m x s
+splice-within a n b m x s fits h len =
+    let f : a + b + m ≤ length s = omega arith in
+    let lp : length (part a n s) ≡ n = length-part a n s fits in
+    let lx : length (splice b m x (part a n s)) ≡ n = length-splice b m x (part a n s) (omega arith) len ∙ lp in
+    sym (splice-unique a n (splice b m x (part a n s)) s fits lx
+    (splice (a + b) m x s) (length-splice (a + b) m x s f len)
+    (λ i l. getD-splice-below (a + b) m x s f len i (omega arith))
+    (part-around a n b m x s fits h len)
+    (λ i l k. getD-splice-above (a + b) m x s f len i (omega arith)))
+
+-- a field of what was replaced
+pub leAt-splice : (w a n : ℕ) (x s : List ℕ) (b : ℕ) → a + n ≤ length s → length x ≡ n → b + w ≤ n → leAt w (splice a n x s) (a + b) ≡ leAt w x b
+leAt-splice w a n x s b fits len h =
+    leAt-ext w (splice a n x s) x (a + b) b (λ k l.
+    ap (λ (i : ℕ). getD (splice a n x s) i 0) (add-assoc a b k) ∙ getD-splice-in a n x s fits len (b + k) (omega arith))
+
+-- a field written right after a part makes the part longer: how a cell is written field by field
+pub putAt-grow : (w a n : ℕ) (x s : List ℕ) (v : ℕ) → a + n + w ≤ length s → length x ≡ n → putAt w (splice a n x s) (a + n) v ≡ splice a (n + w) (x ++ bytesLE w v) s
+unfolding putAt bytesLE
+putAt-grow zero a n x s v h len = rw (add-zero, append-nil)
+putAt-grow (suc w) a n x s v h len =
+    let e : a + n + 1 ≡ a + (n + 1) = omega arith in
+    let e2 : n + 1 + w ≡ n + suc w = omega arith in
+    let l : length (x ++ (v % 256 ∷ [])) ≡ n + 1 = length-append x (v % 256 ∷ []) ∙ ap (λ (k : ℕ). k + 1) len in
+    rw (splice-snoc a n x s (v % 256) (omega arith) len, e, putAt-grow w a (n + 1) (x ++ (v % 256 ∷ [])) s (v / 256) (omega arith) l, e2, append-snoc)
+
+-- what the borrow checker says of `&mut s[a..]`, where the n elements from the start were replaced
+pub back-rest : (a n : ℕ) (x s : List ℕ) → a + n ≤ length s → length x ≡ n → putMid a (length s - a) s (splice 0 n x (midOf a (length s - a) s)) ≡ splice a n x s
+unfolding splice part
+back-rest a n x s fits len =
+    splice-within a (length s - a) 0 n x s (omega arith) (omega arith) len ∙ ap (λ (k : ℕ). splice k n x s) (add-zero a)

@@ -1,0 +1,25 @@
+use mathlib.Core.Path.{_≡_}
+use Prim.Native.Nat.{_%_}
+use native.Mathlib.Omega.{arith}
+use Rattle.store.specs.Le.{putAt}
+use borrow.Author.Needs.{needs}
+use Rattle.store.proofs.put8.Statement.{statement}
+use Rattle.store.proofs.put8.Tie as tie
+use Rattle.store.proofs.put8.Reads as reads
+use Rattle.store.proofs.put8.Lts as lts
+
+-- src/lib.rt:48:5
+slice-write-s : tie.Need-slice-write-s
+slice-write-s c = search needs
+
+-- src/lib.rt:44:1
+same-length : tie.Need-same-length
+same-length c = search needs
+
+-- src/lib.rt:44:1
+returns : tie.Need-returns
+unfolding putAt
+returns c = let e : c .args .x % 256 ≡ c .args .x = omega arith in rw e
+
+pub put8-spec : {M : Type 1} → statement M
+put8-spec = tie.close (tie.spec slice-write-s same-length returns)

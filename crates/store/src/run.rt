@@ -1,0 +1,76 @@
+// Runs of bytes in a lent slice: copy in, shift either way, zeros, and a body with a part replaced in place.
+// `shift` also copies between two pages of one pool: both places are offsets into it.
+ghost use mathlib.Core.Path.{_≡_};
+ghost use Prim.Native.Nat.{_+_, _-_, _≤_};
+ghost use lib.ListN.{length};
+ghost use Rattle.store.specs.Part.{part, put, zeros, pad, spliced};
+
+pub fn copy_in(d: &mut [u8], at: usize, new: &[u8])
+    requires { ⌜ at + length (now new) ≤ length (now d) ⌝ }
+    ensures { λ _. ⌜ now (d .exit) ≡ put at (now (new .entry)) (now (d .entry)) ⌝ }
+{
+    let mut j = 0;
+    while j < new.len() {
+        d[at + j] = new[j];
+        j += 1;
+    }
+}
+
+pub fn zero_fill(d: &mut [u8], from: usize, to: usize)
+    requires { ⌜ (from ≤ to) × (to ≤ length (now d)) ⌝ }
+    ensures { λ _. ⌜ now (d .exit) ≡ put from (zeros (to - from)) (now (d .entry)) ⌝ }
+{
+    let mut i = from;
+    while i < to {
+        d[i] = 0;
+        i += 1;
+    }
+}
+
+// Forward, so that a run that overlaps its own place to the right is read before it is written over.
+fn copy_down(d: &mut [u8], src: usize, dst: usize, n: usize)
+    requires { ⌜ (dst ≤ src) × (src + n ≤ length (now d)) ⌝ }
+    ensures { λ _. ⌜ now (d .exit) ≡ put dst (part src n (now (d .entry))) (now (d .entry)) ⌝ }
+{
+    let mut j = 0;
+    while j < n {
+        d[dst + j] = d[src + j];
+        j += 1;
+    }
+}
+
+// Backward, for the other direction.
+fn copy_up(d: &mut [u8], src: usize, dst: usize, n: usize)
+    requires { ⌜ (src ≤ dst) × (dst + n ≤ length (now d)) ⌝ }
+    ensures { λ _. ⌜ now (d .exit) ≡ put dst (part src n (now (d .entry))) (now (d .entry)) ⌝ }
+{
+    let mut m = n;
+    while 0 < m {
+        m -= 1;
+        d[dst + m] = d[src + m];
+    }
+}
+
+pub fn shift(d: &mut [u8], src: usize, dst: usize, n: usize)
+    requires { ⌜ (src + n ≤ length (now d)) × (dst + n ≤ length (now d)) ⌝ }
+    ensures { λ _. ⌜ now (d .exit) ≡ put dst (part src n (now (d .entry))) (now (d .entry)) ⌝ }
+{
+    if dst <= src {
+        copy_down(d, src, dst, n);
+    } else {
+        copy_up(d, src, dst, n);
+    }
+}
+
+// The first e bytes with those from a up to b replaced by new; zeros from there to the end of the slice.
+pub fn splice_body(d: &mut [u8], a: usize, b: usize, e: usize, new: &[u8])
+    requires { ⌜ (a ≤ b) × (b ≤ e) × (e ≤ length (now d)) × (a + length (now new) + (e - b) ≤ length (now d)) ⌝ }
+    ensures { λ _. ⌜ now (d .exit) ≡ pad (length (now (d .entry))) (spliced a b e (now (new .entry)) (now (d .entry))) ⌝ }
+{
+    let m = new.len();
+    let t = e - b;
+    let n = d.len();
+    shift(d, b, a + m, t);
+    copy_in(d, a, new);
+    zero_fill(d, a + m + t, n);
+}
