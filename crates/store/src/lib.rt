@@ -1,5 +1,6 @@
-// Numbers of 2, 4 and 8 bytes in a lent byte slice, little-endian (document 01, section 2; page.rs).
+// Numbers of 1, 2, 4 and 8 bytes in a lent byte slice, little-endian (document 01, section 2; page.rs).
 // Each read and write is one equation to one definition over the width; module run moves runs of bytes.
+// Wider numbers are read by halves: the compiler makes one load of that.
 pub mod run;
 
 ghost use mathlib.Core.Path.{_≡_};
@@ -7,11 +8,17 @@ ghost use Prim.Native.Nat.{_+_, _<_, _≤_};
 ghost use lib.ListN.{length};
 ghost use Rattle.store.specs.Le.{leAt, putAt};
 
-// By halves, so that the compiler makes one load of it.
 fn wide16(x: u8) -> u16
     ensures { λ r. ⌜ (r ≡ x) × (r < 256) ⌝ }
 {
     x as u16
+}
+
+pub fn get8(s: &[u8], a: usize) -> u8
+    requires { ⌜ a + 1 ≤ length (now s) ⌝ }
+    ensures { λ r. ⌜ r ≡ leAt 1 (now (s .entry)) a ⌝ }
+{
+    s[a]
 }
 
 pub fn get16(s: &[u8], a: usize) -> u16

@@ -1,0 +1,73 @@
+-- Laws of pages. Assumes nothing.
+use mathlib.Core.Path.{_≡_, refl, sym, ap, _∙_}
+use mathlib.Core.List.{List}
+use mathlib.Core.Logic.{⊎-elim}
+use Prim.Native.Nat.{ℕ, _+_, _-_, _*_, _/_, _%_, _≤_, _<_}
+use native.Mathlib.Omega.{arith}
+use lib.ListN.{length, getD}
+use lib.Seq.{ext-getD}
+use borrow.Rule.Slice.PartMut.{midOf, putMid}
+use Rattle.store.specs.Le.{leAt, putAt}
+use Rattle.store.specs.Part.{part, splice}
+use Rattle.page.specs.Page.{page, setPage}
+use Rattle.store.proofs.PartLaws.{lent, back, le-or-lt, length-part, leAt-part, length-splice, part-splice, part-splice-below, part-splice-above, putAt-splice, splice-splice, splice-part, getD-part}
+
+-- what `&pool[a..e]` and `&mut pool[a..e]` lend, with `let a = p * 4096; let e = a + 4096;`
+pub lent-page : (p : ℕ) (s : List ℕ) → midOf (p * 4096) (p * 4096 + 4096 - p * 4096) s ≡ page p s
+unfolding page
+lent-page p s = lent (p * 4096) 4096 s
+
+-- what the pool is when a `&mut` part has come back as y
+pub back-page : (p : ℕ) (s y : List ℕ) → putMid (p * 4096) (p * 4096 + 4096 - p * 4096) s y ≡ setPage p y s
+unfolding setPage
+back-page p s y = back (p * 4096) 4096 s y
+
+pub length-page : (p : ℕ) (s : List ℕ) → p * 4096 + 4096 ≤ length s → length (page p s) ≡ 4096
+unfolding page
+length-page p s = length-part (p * 4096) 4096 s
+
+module _ (p : ℕ) (x s : List ℕ) (fits : p * 4096 + 4096 ≤ length s) (len : length x ≡ 4096) where
+  pub length-setPage : length (setPage p x s) ≡ length s
+  unfolding setPage
+  length-setPage = length-splice (p * 4096) 4096 x s fits len
+
+  pub page-setPage : page p (setPage p x s) ≡ x
+  unfolding page setPage
+  page-setPage = part-splice (p * 4096) 4096 x s fits len
+
+  pub page-setPage-other : (q : ℕ) → (q ≡ p → ⊥) → page q (setPage p x s) ≡ page q s
+  unfolding page setPage
+  page-setPage-other q ne =
+      ⊎-elim
+      (λ (h : p ≤ q). part-splice-above (p * 4096) 4096 x s fits len (q * 4096) 4096 (omega arith))
+      (λ (h : q < p). part-splice-below (p * 4096) 4096 x s fits len (q * 4096) 4096 (omega arith))
+      (le-or-lt p q)
+
+-- a field of a page, read or written in the pool
+pub leAt-page : (w p : ℕ) (s : List ℕ) (b : ℕ) → b + w ≤ 4096 → leAt w s (p * 4096 + b) ≡ leAt w (page p s) b
+unfolding page
+leAt-page w p s b h = sym (leAt-part w (p * 4096) 4096 s b h)
+
+pub putAt-page : (w p : ℕ) (s : List ℕ) (b x : ℕ) → p * 4096 + 4096 ≤ length s → b + w ≤ 4096 → putAt w s (p * 4096 + b) x ≡ setPage p (putAt w (page p s) b x) s
+unfolding page setPage
+putAt-page w p s b x = putAt-splice w (p * 4096) 4096 s b x
+
+pub setPage-setPage : (p : ℕ) (x y s : List ℕ) → p * 4096 + 4096 ≤ length s → length x ≡ 4096 → setPage p y (setPage p x s) ≡ setPage p y s
+unfolding setPage
+setPage-setPage p x y s = splice-splice (p * 4096) 4096 x y s
+
+pub setPage-page : (p : ℕ) (s : List ℕ) → setPage p (page p s) s ≡ s
+unfolding setPage page
+setPage-page p s = splice-part (p * 4096) 4096 s
+
+pub getD-page : (s : List ℕ) (i : ℕ) → getD s i 0 ≡ getD (page (i / 4096) s) (i % 4096) 0
+unfolding page
+getD-page s i =
+    let e : i ≡ i / 4096 * 4096 + i % 4096 = omega arith in
+    ap (λ (k : ℕ). getD s k 0) e ∙ sym (getD-part (i / 4096 * 4096) 4096 s (i % 4096) (omega arith))
+
+-- a pool is what its pages are
+pub pool-ext : (n : ℕ) (s t : List ℕ) → length s ≡ n * 4096 → length t ≡ n * 4096 → ((p : ℕ) → p < n → page p s ≡ page p t) → s ≡ t
+pool-ext n s t ls lt h =
+    ext-getD 0 s t (ls ∙ sym lt) (λ i b.
+    getD-page s i ∙ ap (λ (pg : List ℕ). getD pg (i % 4096) 0) (h (i / 4096) (omega arith)) ∙ sym (getD-page t i))

@@ -1,0 +1,61 @@
+// The pool of pages and a tree's state in it: judging the pool (document 01, section 6, BadPool), one page of it,
+// and the next page, zeroed and handed out (sections 2 and 5).
+ghost use mathlib.Core.Path.{_≡_};
+ghost use Prim.Native.Nat.{_+_, _*_, _≤_, _<_};
+ghost use lib.ListN.{length};
+ghost use Rattle.page.specs.Page.{page};
+ghost use Rattle.page.specs.Pool.{goodPool, allocated, withFresh};
+
+// The numbers of a tree that are not in its pages.
+pub struct State {
+    pub root: u32,
+    pub used: u32,
+}
+
+pub struct Allocated {
+    pub page: u32,
+    pub state: State,
+}
+
+pub fn pool_is_good(pool: &[u8], st: State) -> bool
+    ensures { λ r. ⌜ r ≡ goodPool (now (pool .entry)) st ⌝ }
+{
+    let n = pool.len() / 4096;
+    if pool.len() % 4096 != 0 {
+        return false;
+    }
+    if n < 1 {
+        return false;
+    }
+    if 65536 < n {
+        return false;
+    }
+    st.used as usize <= n
+}
+
+pub fn page_of(pool: &[u8], p: u32) -> &[u8]
+    requires { ⌜ p * 4096 + 4096 ≤ length (now pool) ⌝ }
+    ensures { λ r. ⌜ (now r ≡ page p (now (pool .entry))) × (length (now r) ≡ 4096) ⌝ }
+{
+    let a = p as usize * 4096;
+    let e = a + 4096;
+    &pool[a..e]
+}
+
+// Every page that a call takes is taken here, so that where pages come from is said once.
+pub fn allocate(pool: &mut [u8], st: State) -> Allocated
+    requires { ⌜ (st .used < 65536) × (st .used * 4096 + 4096 ≤ length (now pool)) ⌝ }
+    ensures { λ r. ⌜ r ≡ allocated (now (pool .entry)) st ⌝ }
+    ensures { λ _. ⌜ now (pool .exit) ≡ withFresh (now (pool .entry)) st ⌝ }
+{
+    let p = st.used;
+    let a = p as usize * 4096;
+    store::run::zero_fill(pool, a, a + 4096);
+    Allocated {
+        page: p,
+        state: State {
+            root: st.root,
+            used: p + 1,
+        },
+    }
+}
