@@ -1,0 +1,70 @@
+use borrow.Author.Needs.{needs}
+use Rattle.row.proofs.read.payload_at.Statement.{statement}
+use Rattle.row.proofs.read.payload_at.Tie as tie
+use Rattle.row.proofs.read.payload_at.Reads as reads
+use Rattle.row.proofs.read.payload_at.Lts as lts
+use Rattle.row.proofs.read.head_at.Reads as head-at-reads
+use Rattle.row.proofs.read.pointer_in.Reads as pointer-in-reads
+use Rattle.row.proofs.read.stamp_in.Reads as stamp-in-reads
+use Rattle.store.proofs.get64.Reads as get64-reads
+
+head-at-requires : tie.Need-head-at-requires
+head-at-requires c κs = search needs
+
+enum-known-kind : tie.Need-enum-known-kind
+enum-known-kind c = search needs
+
+enum-known-j : tie.Need-enum-known-j
+enum-known-j c = search needs
+
+returns : tie.Need-returns
+returns c = search needs
+
+sub-if2 : tie.Need-sub-if2
+sub-if2 c = search needs
+
+returns-2 : tie.Need-returns-2
+returns-2 c = search needs
+
+add-get64 : tie.Need-add-get64
+add-get64 c = search needs
+
+get64-requires : tie.Need-get64-requires
+get64-requires c κs = search needs
+
+add-stamp-in : tie.Need-add-stamp-in
+add-stamp-in c = search needs
+
+stamp-in-requires : tie.Need-stamp-in-requires
+stamp-in-requires c κs = search needs
+
+pointer-in-requires : tie.Need-pointer-in-requires
+pointer-in-requires c κs = search needs
+
+sub-t17 : tie.Need-sub-t17
+sub-t17 c = search needs
+
+returns-3 : tie.Need-returns-3
+returns-3 c = search needs
+
+returns-4 : tie.Need-returns-4
+returns-4 c = search needs
+
+pub payload-at-spec : {M : Type 1} → statement M
+payload-at-spec =
+    tie.close
+    (tie.spec
+    head-at-requires
+    enum-known-kind
+    enum-known-j
+    returns
+    sub-if2
+    returns-2
+    add-get64
+    get64-requires
+    add-stamp-in
+    stamp-in-requires
+    pointer-in-requires
+    sub-t17
+    returns-3
+    returns-4)

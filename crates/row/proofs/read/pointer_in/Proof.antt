@@ -1,0 +1,34 @@
+use borrow.Author.Needs.{needs}
+use Rattle.row.proofs.read.pointer_in.Statement.{statement}
+use Rattle.row.proofs.read.pointer_in.Tie as tie
+use Rattle.row.proofs.read.pointer_in.Reads as reads
+use Rattle.row.proofs.read.pointer_in.Lts as lts
+use Rattle.store.proofs.get16.Reads as get16-reads
+use Rattle.store.proofs.get32.Reads as get32-reads
+use Rattle.store.proofs.get8.Reads as get8-reads
+
+get8-requires : tie.Need-get8-requires
+get8-requires c κs = search needs
+
+returns : tie.Need-returns
+returns c = search needs
+
+add-get32 : tie.Need-add-get32
+add-get32 c = search needs
+
+get32-requires : tie.Need-get32-requires
+get32-requires c κs = search needs
+
+add-get16 : tie.Need-add-get16
+add-get16 c = search needs
+
+get16-requires : tie.Need-get16-requires
+get16-requires c κs = search needs
+
+returns-2 : tie.Need-returns-2
+returns-2 c = search needs
+
+pub pointer-in-spec : {M : Type 1} → statement M
+pointer-in-spec =
+    tie.close
+    (tie.spec get8-requires returns add-get32 get32-requires add-get16 get16-requires returns-2)

@@ -1,0 +1,14 @@
+use borrow.Author.Needs.{needs}
+use Rattle.row.proofs.read.stamp_size.Statement.{statement}
+use Rattle.row.proofs.read.stamp_size.Tie as tie
+use Rattle.row.proofs.read.stamp_size.Reads as reads
+use Rattle.row.proofs.read.stamp_size.Lts as lts
+
+returns : tie.Need-returns
+returns c = search needs
+
+returns-2 : tie.Need-returns-2
+returns-2 c = search needs
+
+pub stamp-size-spec : {M : Type 1} → statement M
+stamp-size-spec = tie.close (tie.spec returns returns-2)

@@ -1,0 +1,32 @@
+use borrow.Author.Needs.{needs}
+use Rattle.row.proofs.write.put_head.Statement.{statement}
+use Rattle.row.proofs.write.put_head.Tie as tie
+use Rattle.row.proofs.write.put_head.Reads as reads
+use Rattle.row.proofs.write.put_head.Lts as lts
+use Rattle.page.proofs.key.put_rank.Reads as put-rank-reads
+use Rattle.store.proofs.put32.Reads as put32-reads
+use Rattle.store.proofs.put64.Reads as put64-reads
+use Rattle.store.proofs.put8.Reads as put8-reads
+
+put-rank-requires : tie.Need-put-rank-requires
+put-rank-requires c κs = search needs
+
+put32-requires : tie.Need-put32-requires
+put32-requires c κs = search needs
+
+put8-requires : tie.Need-put8-requires
+put8-requires c κs = search needs
+
+put64-requires : tie.Need-put64-requires
+put64-requires c κs = search needs
+
+same-length : tie.Need-same-length
+same-length c = search needs
+
+returns : tie.Need-returns
+returns c = search needs
+
+pub put-head-spec : {M : Type 1} → statement M
+put-head-spec =
+    tie.close
+    (tie.spec put-rank-requires put32-requires put8-requires put64-requires same-length returns)

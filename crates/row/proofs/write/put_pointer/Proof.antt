@@ -1,0 +1,61 @@
+use borrow.Author.Needs.{needs}
+use Rattle.row.proofs.write.put_pointer.Statement.{statement}
+use Rattle.row.proofs.write.put_pointer.Tie as tie
+use Rattle.row.proofs.write.put_pointer.Reads as reads
+use Rattle.row.proofs.write.put_pointer.Lts as lts
+use Rattle.store.proofs.put16.Reads as put16-reads
+use Rattle.store.proofs.put32.Reads as put32-reads
+use Rattle.store.proofs.put8.Reads as put8-reads
+
+enum-told : tie.Need-enum-told
+enum-told c = search needs
+
+put8-requires : tie.Need-put8-requires
+put8-requires c κs = search needs
+
+enum-known-pointer : tie.Need-enum-known-pointer
+enum-known-pointer c = search needs
+
+put8-requires-2 : tie.Need-put8-requires-2
+put8-requires-2 c κs = search needs
+
+add-put32 : tie.Need-add-put32
+add-put32 c = search needs
+
+put32-requires : tie.Need-put32-requires
+put32-requires c κs = search needs
+
+add-put16 : tie.Need-add-put16
+add-put16 c = search needs
+
+put16-requires : tie.Need-put16-requires
+put16-requires c κs = search needs
+
+same-length : tie.Need-same-length
+same-length c = search needs
+
+returns : tie.Need-returns
+returns c = search needs
+
+same-length-2 : tie.Need-same-length-2
+same-length-2 c = search needs
+
+returns-2 : tie.Need-returns-2
+returns-2 c = search needs
+
+pub put-pointer-spec : {M : Type 1} → statement M
+put-pointer-spec =
+    tie.close
+    (tie.spec
+    enum-told
+    put8-requires
+    enum-known-pointer
+    put8-requires-2
+    add-put32
+    put32-requires
+    add-put16
+    put16-requires
+    same-length
+    returns
+    same-length-2
+    returns-2)

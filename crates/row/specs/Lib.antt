@@ -1,0 +1,4 @@
+-- What a reader of the contracts of `row` has to believe.
+pub mod Read
+pub mod Write
+pub mod Exact

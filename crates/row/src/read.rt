@@ -1,0 +1,137 @@
+// The reader of a cell (document 01, section 2): it accepts exactly the bytes that a version writes, and names the
+// fault of any others: 1 unknown format byte, 2 a flag above 1, 3 a payload short or past the end, 4 data over 4051.
+ghost use mathlib.Core.Path.{_≡_};
+ghost use Prim.Native.Nat.{_+_, _≤_};
+ghost use lib.ListN.{length};
+ghost use Rattle.store.specs.Le.{leAt};
+ghost use Rattle.row.specs.Read.{stampSize, pointerSize, stampIn, pointerIn, headAt, payloadAt, cellAt};
+use crate::Cell;
+use crate::Pointer;
+use crate::Stamp;
+use crate::Version;
+
+// Where the pointer's flag stands and where the data starts, or the kind of fault.
+pub enum HeadRead {
+    Got(usize, usize),
+    Bad(u8),
+}
+
+pub enum CellRead {
+    Got(Cell),
+    Bad(u8),
+}
+
+fn stamp_size(flag: u8) -> usize
+    ensures { λ r. ⌜ r ≡ stampSize flag ⌝ }
+{
+    if flag == 0 { 1 } else { 9 }
+}
+
+fn pointer_size(flag: u8) -> usize
+    ensures { λ r. ⌜ r ≡ pointerSize flag ⌝ }
+{
+    if flag == 0 { 1 } else { 7 }
+}
+
+fn stamp_in(s: &[u8], i: usize) -> Stamp
+    requires { ⌜ i + stampSize (leAt 1 (now s) i) ≤ length (now s) ⌝ }
+    ensures { λ r. ⌜ r ≡ stampIn (now (s .entry)) i ⌝ }
+{
+    if store::get8(s, i) == 0 {
+        return Stamp::Absent;
+    }
+    Stamp::By(store::get64(s, i + 1))
+}
+
+fn pointer_in(s: &[u8], i: usize) -> Pointer
+    requires { ⌜ i + pointerSize (leAt 1 (now s) i) ≤ length (now s) ⌝ }
+    ensures { λ r. ⌜ r ≡ pointerIn (now (s .entry)) i ⌝ }
+{
+    if store::get8(s, i) == 0 {
+        return Pointer::Absent;
+    }
+    Pointer::At {
+        page: store::get32(s, i + 1),
+        slot: store::get16(s, i + 5),
+    }
+}
+
+// The fields of a payload that starts at i and of which the bytes up to m are there.
+fn head_at(s: &[u8], i: usize, m: usize) -> HeadRead
+    requires { ⌜ (i ≤ m) × (m ≤ length (now s)) ⌝ }
+    ensures { λ r. ⌜ r ≡ headAt (now (s .entry)) i m ⌝ }
+{
+    if m - i < 1 {
+        return HeadRead::Bad(3);
+    }
+    if store::get8(s, i) != 129 {
+        return HeadRead::Bad(1);
+    }
+    if m - i < 10 {
+        return HeadRead::Bad(3);
+    }
+    let f = store::get8(s, i + 9);
+    if 1 < f {
+        return HeadRead::Bad(2);
+    }
+    let j = i + 9 + stamp_size(f);
+    if m <= j {
+        return HeadRead::Bad(3);
+    }
+    let g = store::get8(s, j);
+    if 1 < g {
+        return HeadRead::Bad(2);
+    }
+    let k = j + pointer_size(g);
+    if m < k {
+        return HeadRead::Bad(3);
+    }
+    HeadRead::Got(j, k)
+}
+
+// The cell of that key, if the payload is whole; past says that it goes on beyond the bytes that are there.
+fn payload_at(s: &[u8], key: u32, i: usize, m: usize, past: bool) -> CellRead
+    requires { ⌜ (i ≤ m) × (m ≤ length (now s)) ⌝ }
+    ensures { λ r. ⌜ r ≡ payloadAt (now (s .entry)) key i m past ⌝ }
+{
+    match head_at(s, i, m) {
+        HeadRead::Bad(kind) => CellRead::Bad(kind),
+        HeadRead::Got(j, k) => {
+            if past {
+                return CellRead::Bad(3);
+            }
+            if 4051 < m - k {
+                return CellRead::Bad(4);
+            }
+            CellRead::Got(Cell {
+                key,
+                version: Version {
+                    creator: store::get64(s, i + 1),
+                    stamp: stamp_in(s, i + 9),
+                    pointer: pointer_in(s, j),
+                    start: k,
+                    len: m - k,
+                },
+                next: m,
+            })
+        }
+    }
+}
+
+pub fn read_cell(s: &[u8], at: usize) -> CellRead
+    ensures { λ r. ⌜ r ≡ cellAt (now (s .entry)) at ⌝ }
+{
+    if s.len() < 8 {
+        return CellRead::Bad(3);
+    }
+    if s.len() - 8 < at {
+        return CellRead::Bad(3);
+    }
+    let key = page::key::get_rank(s, at);
+    let n = store::get32(s, at + 4) as usize;
+    let i = at + 8;
+    if s.len() - i < n {
+        return payload_at(s, key, i, s.len(), true);
+    }
+    payload_at(s, key, i, i + n, false)
+}
