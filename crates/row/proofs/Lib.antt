@@ -1,1 +1,3 @@
--- Laws
+-- Laws of `row` for its own proofs and for the crates above.
+pub mod Reading
+pub mod Writing

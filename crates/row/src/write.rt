@@ -9,7 +9,7 @@ use crate::Pointer;
 use crate::Stamp;
 
 fn stamp_len(stamp: Stamp) -> usize
-    ensures { λ r. ⌜ (r ≡ stampLen stamp) × (r ≤ 9) ⌝ }
+    ensures { λ r. ⌜ r ≡ stampLen stamp ⌝ }
 {
     match stamp {
         Stamp::Absent => 1,
@@ -18,7 +18,7 @@ fn stamp_len(stamp: Stamp) -> usize
 }
 
 fn pointer_len(pointer: Pointer) -> usize
-    ensures { λ r. ⌜ (r ≡ pointerLen pointer) × (r ≤ 7) ⌝ }
+    ensures { λ r. ⌜ r ≡ pointerLen pointer ⌝ }
 {
     match pointer {
         Pointer::Absent => 1,

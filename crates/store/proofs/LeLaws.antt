@@ -157,3 +157,7 @@ bytesLE-leAt (suc w) s a h l =
     let lo : (getD s a 0 + 256 * leAt w s (a + 1)) % 256 ≡ getD s a 0 = omega (arith, h a) in
     let hi : (getD s a 0 + 256 * leAt w s (a + 1)) / 256 ≡ leAt w s (a + 1) = omega (arith, h a) in
     rw (lo, hi, bytesLE-leAt w s (a + 1) h (omega arith), drop-cons s a 0 (omega arith), add-one)
+
+pub one-byte : (x : ℕ) → x < 256 → bytesLE 1 x ≡ x ∷ []
+unfolding bytesLE
+one-byte x h = rw (mod-eq-of-lt h)

@@ -2,16 +2,16 @@
 use mathlib.Core.Path.{_≡_, refl, sym, ap, ap₂, _∙_}
 use mathlib.Core.List.{List, [], _∷_, _++_, append-assoc, append-nil}
 use mathlib.Core.Logic.{_⊎_, inl, inr, ⊎-elim}
-use Prim.Native.Nat.{ℕ, zero, suc, _+_, _-_, _*_, _/_, _%_, _≤_, _<_, zero-le, suc-le-suc}
-use native.Mathlib.Nat.{sub-zero, zero-sub, suc-sub-suc, add-zero, add-assoc, add-sub-of-le, min-eq-left}
+use Prim.Native.Nat.{ℕ, zero, suc, _+_, _-_, _*_, _/_, _%_, _^_, _≤_, _<_, zero-le, suc-le-suc}
+use native.Mathlib.Nat.{sub-zero, zero-sub, suc-sub-suc, add-zero, add-assoc, add-sub-of-le, min-eq-left, mod-eq-of-lt}
 use native.Mathlib.Numerals.{add-one}
 use native.Mathlib.Omega.{arith}
 use borrow.Rule.Slice.PartMut.{midOf, putMid}
 use lib.ListN.{length, getD, set, take, drop, length-append, length-take, length-drop, List·getD-append, take-append-drop, replicate, length-replicate, replicate-append-replicate}
-use lib.Seq.{length-take-le, getD-take, getD-drop, getD-append-add, ext-getD, take-set-lt, drop-set-add, take-at, drop-at, set-at, drop-cons, take-suc, drop-drop, take-take, append-snoc, take-nil}
+use lib.Seq.{length-take-le, getD-take, getD-drop, getD-append-add, ext-getD, take-set-lt, drop-set-add, take-at, drop-at, set-at, drop-cons, take-suc, drop-drop, take-take, append-snoc, take-nil, take-add}
 use Rattle.store.specs.Le.{leAt, bytesLE, putAt}
 use Rattle.store.specs.Part.{part, splice}
-use Rattle.store.proofs.LeLaws.{leAt-ext, length-putAt, getD-putAt-below, getD-putAt-above}
+use Rattle.store.proofs.LeLaws.{leAt-ext, leAt-bytes, length-putAt, getD-putAt-below, getD-putAt-above}
 
 pub le-or-lt : (a b : ℕ) → (a ≤ b) ⊎ (b < a)
 le-or-lt zero b = inl zero-le
@@ -188,7 +188,7 @@ copy-step a f i t s h k =
 
 -- ---- a part of a part
 
-drop-take : (b n : ℕ) (s : List ℕ) → drop b (take n s) ≡ take (n - b) (drop b s)
+pub drop-take : (b n : ℕ) (s : List ℕ) → drop b (take n s) ≡ take (n - b) (drop b s)
 drop-take zero n s = rw sub-zero
 drop-take (suc b) zero s = rw zero-sub
 drop-take (suc b) (suc n) [] = sym (take-nil (suc n - suc b))
@@ -244,3 +244,23 @@ pub back-rest : (a n : ℕ) (x s : List ℕ) → a + n ≤ length s → length x
 unfolding splice part
 back-rest a n x s fits len =
     splice-within a (length s - a) 0 n x s (omega arith) (omega arith) len ∙ ap (λ (k : ℕ). splice k n x s) (add-zero a)
+
+-- ---- a list taken apart, field by field
+
+pub part-add : (a n m : ℕ) (s : List ℕ) → part a (n + m) s ≡ part a n s ++ part (a + n) m s
+unfolding part
+part-add a n m s = rw (take-add, drop-drop)
+
+-- what stands after the first n elements of a part
+pub part-peel : (a n m : ℕ) (x t s : List ℕ) → length x ≡ n → part a (n + m) s ≡ x ++ t → part (a + n) m s ≡ t
+unfolding part
+part-peel a n m x t s len e =
+    let k : n + m - n ≡ m = omega arith in
+    let d : drop n (take (n + m) (drop a s)) ≡ take m (drop (a + n) s) = rw (drop-take n (n + m) (drop a s), drop-drop, k) in
+    sym d ∙ (ap (drop n) e ∙ drop-at x t n len)
+
+-- the number that stands first in a part
+pub leAt-first : (w a m x : ℕ) (t s : List ℕ) → w ≤ m → x < 256 ^ w → part a m s ≡ bytesLE w x ++ t → leAt w s a ≡ x
+leAt-first w a m x t s h l e =
+    let k : a + 0 ≡ a = omega arith in
+    sym (rw k at (leAt-part w a m s 0 (omega arith))) ∙ (rw e (leAt-bytes w x [] t 0 refl) ∙ mod-eq-of-lt l)

@@ -9,7 +9,9 @@ use native.Mathlib.Omega.{arith}
 use lib.ListN.{length, take, drop, set, getD, length-append, length-take, length-drop, length-replicate, take-append-drop, drop-of-length-le}
 use lib.Seq.{take-suc-set, drop-set-lt, take-set-le, drop-set-add, drop-cons, set-split, drop-at, take-at, length-take-le, drop-drop, take-append-le, take-take, drop-append-add, drop-length, take-nil, take-all}
 use borrow.Rule.Slice.PartMut.{midOf, putMid, mid-len}
+use Rattle.store.specs.Le.{bytesLE, putAt}
 use Rattle.store.specs.Part.{part, splice, put, zeros, pad, spliced}
+use Rattle.store.proofs.LeLaws.{putAt-bytes, length-bytesLE}
 use Rattle.store.proofs.PartLaws.{length-part, part-snoc}
 
 pub put-def : (a : ℕ) (x s : List ℕ) → put a x s ≡ take a s ++ (x ++ drop (a + length x) s)
@@ -25,6 +27,11 @@ put-nil a s = put-def a [] s ∙ rw (add-zero, take-append-drop)
 
 pub length-put : (a : ℕ) (x s : List ℕ) → a + length x ≤ length s → length (put a x s) ≡ length s
 length-put a x s h = rw put-def (simp (length-append, length-take, length-drop) (omega arith))
+
+-- ---- fields of numbers
+
+pub putAt-put : (w a x : ℕ) (s : List ℕ) → a + w ≤ length s → putAt w s a x ≡ put a (bytesLE w x) s
+putAt-put w a x s h = putAt-bytes w s a x h ∙ rw (put-def, length-bytesLE)
 
 -- ---- the turns of a loop: what is left to do after a turn gives what was left to do before it
 
@@ -164,6 +171,12 @@ put-after a x y s h =
 
 pub put-after-at : (a n : ℕ) (x y s : List ℕ) → a ≤ length s → n ≡ a + length x → put n y (put a x s) ≡ put a (x ++ y) s
 put-after-at a n x y s h e = rw e (put-after a x y s h)
+
+-- a field right after what was stored
+pub put-field : (w a b v : ℕ) (x s : List ℕ) → b ≡ a + length x → b + w ≤ length s → putAt w (put a x s) b v ≡ put a (x ++ bytesLE w v) s
+put-field w a b v x s e h =
+    let l : length (put a x s) ≡ length s = length-put a x s (omega arith) in
+    putAt-put w b v (put a x s) (omega arith) ∙ put-after-at a b x (bytesLE w v) s (omega arith) e
 
 pub put-before : (a : ℕ) (x y s : List ℕ) → a + length x ≤ length s → put a x (put (a + length x) y s) ≡ put a (x ++ y) s
 put-before a x y s h =

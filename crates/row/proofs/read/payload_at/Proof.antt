@@ -1,3 +1,5 @@
+use native.Mathlib.Omega.{arith}
+use Rattle.row.proofs.Reading.{head-is, payload-bad, payload-past, payload-long, payload-cell, stamp-inside, pointer-inside}
 use borrow.Author.Needs.{needs}
 use Rattle.row.proofs.read.payload_at.Statement.{statement}
 use Rattle.row.proofs.read.payload_at.Tie as tie
@@ -18,37 +20,37 @@ enum-known-j : tie.Need-enum-known-j
 enum-known-j c = search needs
 
 returns : tie.Need-returns
-returns c = search needs
+returns c = payload-past _ _ _ _ (head-is _ _ _ (c .before .before .before .before .head-at .ensures) (c .before .before .j .given .1)) (search needs)
 
 sub-if2 : tie.Need-sub-if2
-sub-if2 c = search needs
+sub-if2 c = let h = head-is _ _ _ (c .before .before .before .before .head-at .ensures) (c .before .before .j .given .1) in omega (arith, h .within)
 
 returns-2 : tie.Need-returns-2
-returns-2 c = search needs
+returns-2 c = payload-long _ _ _ _ (head-is _ _ _ (c .before .before .before .before .before .head-at .ensures) (c .before .before .before .j .given .1)) (search needs) (search needs)
 
 add-get64 : tie.Need-add-get64
 add-get64 c = search needs
 
 get64-requires : tie.Need-get64-requires
-get64-requires c κs = search needs
+get64-requires c κs = let h = head-is _ _ _ (c .before .before .before .before .before .head-at .ensures) (c .before .before .before .j .given .1) in omega (arith, h .within, h .after)
 
 add-stamp-in : tie.Need-add-stamp-in
 add-stamp-in c = search needs
 
 stamp-in-requires : tie.Need-stamp-in-requires
-stamp-in-requires c κs = search needs
+stamp-in-requires c κs = let h = head-is _ _ _ (c .before .before .before .before .before .before .head-at .ensures) (c .before .before .before .before .j .given .1) in omega (arith, h .within, h .apart, stamp-inside _ _ (h .flag))
 
 pointer-in-requires : tie.Need-pointer-in-requires
-pointer-in-requires c κs = search needs
+pointer-in-requires c κs = let h = head-is _ _ _ (c .before .before .before .before .before .before .before .head-at .ensures) (c .before .before .before .before .before .j .given .1) in omega (arith, h .within, pointer-inside _ _ (h .flag) (h .start))
 
 sub-t17 : tie.Need-sub-t17
-sub-t17 c = search needs
+sub-t17 c = let h = head-is _ _ _ (c .before .before .before .before .before .before .before .before .head-at .ensures) (c .before .before .before .before .before .before .j .given .1) in omega (arith, h .within)
 
 returns-3 : tie.Need-returns-3
-returns-3 c = search needs
+returns-3 c = payload-bad _ _ _ (c .before .before .before .head-at .ensures) _ _ (c .before .kind .given .1)
 
 returns-4 : tie.Need-returns-4
-returns-4 c = search needs
+returns-4 c = payload-cell _ _ _ _ (head-is _ _ _ (c .before .before .before .before .before .before .before .before .head-at .ensures) (c .before .before .before .before .before .before .j .given .1)) (search needs) (search needs) (search needs) (search needs) (search needs)
 
 pub payload-at-spec : {M : Type 1} → statement M
 payload-at-spec =

@@ -1,3 +1,4 @@
+use Rattle.row.proofs.Reading.{pointer-size-none, pointer-size-at}
 use borrow.Author.Needs.{needs}
 use Rattle.row.proofs.read.pointer_size.Statement.{statement}
 use Rattle.row.proofs.read.pointer_size.Tie as tie
@@ -5,10 +6,10 @@ use Rattle.row.proofs.read.pointer_size.Reads as reads
 use Rattle.row.proofs.read.pointer_size.Lts as lts
 
 returns : tie.Need-returns
-returns c = search needs
+returns c = pointer-size-none _ (search needs)
 
 returns-2 : tie.Need-returns-2
-returns-2 c = search needs
+returns-2 c = pointer-size-at _ (search needs)
 
 pub pointer-size-spec : {M : Type 1} → statement M
 pointer-size-spec = tie.close (tie.spec returns returns-2)

@@ -1,3 +1,5 @@
+use native.Mathlib.Omega.{arith}
+use Rattle.row.proofs.Reading.{cell-short, cell-past, cell-whole}
 use borrow.Author.Needs.{needs}
 use Rattle.row.proofs.read.read_cell.Statement.{statement}
 use Rattle.row.proofs.read.read_cell.Tie as tie
@@ -8,13 +10,13 @@ use Rattle.row.proofs.read.payload_at.Reads as payload-at-reads
 use Rattle.store.proofs.get32.Reads as get32-reads
 
 returns : tie.Need-returns
-returns c = search needs
+returns c = cell-short _ _ (omega arith)
 
 sub-if2 : tie.Need-sub-if2
 sub-if2 c = search needs
 
 returns-2 : tie.Need-returns-2
-returns-2 c = search needs
+returns-2 c = cell-short _ _ (omega arith)
 
 get-rank-requires : tie.Need-get-rank-requires
 get-rank-requires c κs = search needs
@@ -38,7 +40,7 @@ payload-at-requires : tie.Need-payload-at-requires
 payload-at-requires c κs = search needs
 
 returns-3 : tie.Need-returns-3
-returns-3 c = search needs
+returns-3 c = cell-past _ _ (search needs) (omega arith) (c .before .before .before .get-rank .ensures) (c .payload-at .ensures)
 
 add-payload-at : tie.Need-add-payload-at
 add-payload-at c = search needs
@@ -47,7 +49,7 @@ payload-at-requires-2 : tie.Need-payload-at-requires-2
 payload-at-requires-2 c κs = search needs
 
 returns-4 : tie.Need-returns-4
-returns-4 c = search needs
+returns-4 c = cell-whole _ _ (search needs) (c .before .before .get32 .ensures) (search needs) (c .before .before .before .get-rank .ensures) (c .payload-at2 .ensures)
 
 pub read-cell-spec : {M : Type 1} → statement M
 read-cell-spec =

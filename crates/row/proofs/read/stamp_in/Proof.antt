@@ -1,3 +1,7 @@
+use native.Mathlib.Omega.{arith}
+use denote.Ref.{now}
+use Rattle.store.specs.Le.{leAt}
+use Rattle.row.proofs.Reading.{stamp-size, stamp-size-by, stamp-none, stamp-by}
 use borrow.Author.Needs.{needs}
 use Rattle.row.proofs.read.stamp_in.Statement.{statement}
 use Rattle.row.proofs.read.stamp_in.Tie as tie
@@ -7,19 +11,19 @@ use Rattle.store.proofs.get64.Reads as get64-reads
 use Rattle.store.proofs.get8.Reads as get8-reads
 
 get8-requires : tie.Need-get8-requires
-get8-requires c κs = search needs
+get8-requires c κs = omega (arith, stamp-size (leAt 1 (now (c .before .args .s)) (c .before .args .i)) .0)
 
 returns : tie.Need-returns
-returns c = search needs
+returns c = stamp-none _ _ (search needs)
 
 add-get64 : tie.Need-add-get64
 add-get64 c = search needs
 
 get64-requires : tie.Need-get64-requires
-get64-requires c κs = search needs
+get64-requires c κs = omega (arith, stamp-size-by (leAt 1 (now (c .before .before .before .args .s)) (c .before .before .before .args .i)) (λ e. omega arith))
 
 returns-2 : tie.Need-returns-2
-returns-2 c = search needs
+returns-2 c = stamp-by _ _ (λ e. omega arith) (search needs)
 
 pub stamp-in-spec : {M : Type 1} → statement M
 stamp-in-spec = tie.close (tie.spec get8-requires returns add-get64 get64-requires returns-2)
