@@ -1,7 +1,7 @@
 //! Where aerodb's code does something else than the port: what DIFFERENCES cites.
 use aerodb_opaque::oracle::Oracle;
 use std::panic::{AssertUnwindSafe, catch_unwind};
-use wire::page::one_cell;
+use wire::page::leaf;
 use wire::*;
 
 fn cell(payload: &[u8]) -> Vec<u8> {
@@ -59,7 +59,7 @@ fn laxer_reader() {
         ),
     ];
     for (name, payload, read) in cases {
-        let answer = versions_of(&one_cell(&cell(&payload)));
+        let answer = versions_of(&leaf(1, &cell(&payload)));
         assert_eq!(answer, Ans::List(vec![read]), "{name}");
     }
 }
@@ -68,7 +68,7 @@ fn laxer_reader() {
 /// anything else in the leaf changes.
 #[test]
 fn lax_reading_is_rewritten() {
-    let page = one_cell(&cell(&[0x80, 1, 2]));
+    let page = leaf(1, &cell(&[0x80, 1, 2]));
     let mut o = Oracle::from_bytes(&page, 1, 0);
     assert_eq!(o.run(&Op::Insert(8, vec![])), Ans::Done);
     let rewritten = Version::live(7, 0, vec![0x80, 1, 2]).cell();
@@ -80,12 +80,59 @@ fn lax_reading_is_rewritten() {
 fn short_payloads() {
     let full = payload(&[1, 12, 0, 0, 0, 0, 0, 0, 0], &[1, 3, 0, 0, 0, 4, 0], &[]);
     for n in 1..full.len() {
-        let answer = versions_of(&one_cell(&cell(&full[..n])));
+        let answer = versions_of(&leaf(1, &cell(&full[..n])));
         assert_eq!(answer, Ans::Refused(BAD_TREE), "{n} bytes");
     }
     let mut past = cell(&full);
     past[4..8].copy_from_slice(&4077u32.to_le_bytes());
-    assert_eq!(versions_of(&one_cell(&past)), Ans::Refused(BAD_TREE));
+    assert_eq!(versions_of(&leaf(1, &past)), Ans::Refused(BAD_TREE));
+}
+
+/// A leaf out of order is read as it is, and sorted when it is next written.
+#[test]
+fn order_is_not_judged() {
+    let [high, low, new] = [9, 3, 5].map(|key| Version::live(key, 0, vec![]));
+    let page = leaf(2, &[high.cell(), low.cell()].concat());
+    let mut o = Oracle::from_bytes(&page, 1, 0);
+    let listed = Ans::List(vec![high.clone(), low.clone()]);
+    assert_eq!(o.run(&Op::All), listed);
+    assert_eq!(o.run(&Op::InsertVersion(new.clone())), Ans::Done);
+    assert_eq!(o.run(&Op::All), Ans::List(vec![low, new, high]));
+}
+
+/// An active list in any order is sorted by the Rust; the port refuses it.
+#[test]
+fn active_list_is_sorted() {
+    let page = leaf(1, &Version::live(7, 3, vec![]).cell());
+    let lookup = Op::Lookup(
+        7,
+        Snap {
+            xmax: 20,
+            active: vec![12, 3, 12],
+            current: None,
+        },
+    );
+    let mut o = Oracle::from_bytes(&page, 1, 0);
+    assert_eq!(o.run(&lookup), Ans::Refused(BAD_SNAPSHOT));
+    o.bare = true;
+    assert_eq!(o.run(&lookup), Ans::Refused(ABSENT));
+}
+
+/// Data over the limit that the Rust has taken cannot be stamped, and a cell
+/// that fits no page is refused too; either refusal leaves one more page in use.
+#[test]
+fn refused_cells_take_a_page() {
+    let alone = |data: usize| Version::live(7, 0, vec![0; data]);
+    let kept = leaf(1, &alone(4065).cell());
+    for (page, op) in [
+        (kept, Op::PlainStamp(7, 12)),
+        (leaf(0, &[]), Op::InsertVersion(alone(4066))),
+    ] {
+        let mut o = Oracle::from_bytes(&page, 1, 0);
+        o.bare = true;
+        assert_eq!(o.run(&op), Ans::Refused(UNDIVIDABLE));
+        assert_eq!((o.page(0) == page, o.in_use()), (true, 2));
+    }
 }
 
 /// What a listing of a tree whose root is this page 1 panics with, if it does.
@@ -101,7 +148,7 @@ fn panic_of(page: &[u8; PAGE]) -> Option<String> {
 /// accesses run out); a cell that begins past the page's end is a panic.
 #[test]
 fn damaged_pools() {
-    let full = one_cell(&Version::live(1, 0, vec![0; 4065]).cell());
+    let full = leaf(1, &Version::live(1, 0, vec![0; 4065]).cell());
     assert_eq!(panic_of(&full), None);
     // Bytes to set: the type and the first child; the next leaf; the cell count.
     let cases: [(&[(usize, u8)], &str); 3] = [

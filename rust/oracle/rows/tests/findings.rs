@@ -1,11 +1,11 @@
 //! What aerodb's own row.rs adds: data is a `RowData` to it and is not opaque.
 use aerodb_rows::oracle::Oracle;
-use wire::page::{cell_sizes, header, one_cell};
+use wire::page::{cell_sizes, header, leaf};
 use wire::*;
 
 fn holding(data: &[u8]) -> Oracle {
     let cell = Version::live(7, 5, data.to_vec()).cell();
-    let mut pool = one_cell(&cell).to_vec();
+    let mut pool = leaf(1, &cell).to_vec();
     pool.resize(4 * PAGE, 0);
     Oracle::from_bytes(&pool, 1, 0)
 }

@@ -43,12 +43,12 @@ pub fn children(page: &[u8; PAGE]) -> Vec<u32> {
     (0..=count).map(|i| u32_at(page, 12 + 8 * i)).collect()
 }
 
-/// A leaf, root and alone, that holds the given bytes as one cell.
-pub fn one_cell(cell: &[u8]) -> [u8; PAGE] {
+/// A leaf, root and alone, with a cell count and the bytes of its cells.
+pub fn leaf(count: u8, cells: &[u8]) -> [u8; PAGE] {
     let mut page = [0; PAGE];
     page[0] = 1;
     page[1] = 1;
-    page[6] = 1;
-    page[12..12 + cell.len()].copy_from_slice(cell);
+    page[6] = count;
+    page[12..12 + cells.len()].copy_from_slice(cells);
     page
 }
