@@ -159,7 +159,7 @@ pub record HeadIs (s : List ℕ) (i m j k : ℕ) : Type 0 where
   pub after : i + 11 ≤ k
   pub apart : j < k
 
-pick-zero : (b : Bool) (n : ℕ) {y : ℕ} → pick b (suc n) y ≡ 0 → (b ≡ false) × (y ≡ 0)
+pub pick-zero : (b : Bool) (n : ℕ) {y : ℕ} → pick b (suc n) y ≡ 0 → (b ≡ false) × (y ≡ 0)
 pick-zero true n e = absurd (omega arith)
 pick-zero false n e = (refl, e)
 

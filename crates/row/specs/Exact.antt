@@ -4,7 +4,8 @@ use mathlib.Core.Path.{_≡_}
 use mathlib.Core.List.{List, [], _∷_}
 use Prim.Native.Nat.{ℕ, _+_, _≤_, _<_}
 use lib.IntN.{pos}
-use lib.ListN.{length, getD}
+use lib.ListN.{length}
+use Rattle.store.specs.Le.{AreBytes}
 use Rattle.store.specs.Part.{part}
 use Rattle.page.specs.Key.{rankOf}
 use Rattle.row.specs.Read.{cellAt}
@@ -13,9 +14,6 @@ use Rattle.row.specs.declared.Stamp.{Stamp}
 use Rattle.row.specs.declared.Pointer.{Pointer}
 use Rattle.row.specs.declared.Cell.{Cell}
 use Rattle.row.specs.declared.read.CellRead.{CellRead}
-
-abbrev pub AreBytes : List ℕ → Type 0
-AreBytes s = (i : ℕ) → getD s i 0 < 256
 
 -- the numbers fit the widths in which they are stored
 abbrev pub StampFits : Stamp → Type 0
@@ -39,9 +37,9 @@ cellOf at key creator st pt n =
 abbrev pub WrittenIsRead : Type 0
 WrittenIsRead =
     (s : List ℕ) (at key creator : ℕ) (st : Stamp) (pt : Pointer) (body : List ℕ) → key < 4294967296 → creator < 18446744073709551616
-        → StampFits st → PointerFits pt → length body ≤ 4051 → at + cellSize st pt (length body) ≤ length s
-        → part at (cellSize st pt (length body)) s ≡ cellBytes key creator st pt body
-        → cellAt s at ≡ CellRead.Got (cellOf at key creator st pt (length body))
+    → StampFits st → PointerFits pt → length body ≤ 4051 → at + cellSize st pt (length body) ≤ length s
+    → part at (cellSize st pt (length body)) s ≡ cellBytes key creator st pt body
+    → cellAt s at ≡ CellRead.Got (cellOf at key creator st pt (length body))
 
 -- what is read is what a version writes, and lies inside the bytes
 pub record CellIs (s : List ℕ) (at : ℕ) (c : Cell) : Type 0 where

@@ -8,7 +8,7 @@ use native.Mathlib.Omega.{arith}
 use lib.Arith.{digits-div, digits-mod, mod-mul}
 use lib.ListN.{length, getD, set, take, drop, length-set, length-append, take-append-drop}
 use lib.Seq.{getD-set-same, getD-set-other, getD-take, getD-drop, set-split, drop-set-lt, take-suc-set, drop-cons, getD-at, append-snoc}
-use Rattle.store.specs.Le.{leAt, bytesLE, putAt}
+use Rattle.store.specs.Le.{AreBytes, leAt, bytesLE, putAt}
 
 -- ---- powers of 256
 
@@ -54,7 +54,7 @@ leAt-drop w n s a = leAt-ext w (drop n s) s a (n + a) (λ k l. rw (getD-drop, ad
 pub leAt-take : (w n : ℕ) (s : List ℕ) (a : ℕ) → a + w ≤ n → leAt w (take n s) a ≡ leAt w s a
 leAt-take w n s a h = leAt-ext w (take n s) s a a (λ k l. getD-take n s (a + k) 0 (omega arith))
 
-pub leAt-lt : (w : ℕ) (s : List ℕ) (a : ℕ) → ((k : ℕ) → getD s k 0 < 256) → leAt w s a < 256 ^ w
+pub leAt-lt : (w : ℕ) (s : List ℕ) (a : ℕ) → AreBytes s → leAt w s a < 256 ^ w
 unfolding leAt
 leAt-lt zero s a h = rw pow-zero (omega arith)
 leAt-lt (suc w) s a h = rw pow-suc (omega (arith, leAt-lt w s (a + 1) h, h a))
@@ -150,7 +150,7 @@ leAt-bytes (suc w) x p t a e =
     (sym (mod-suc256 w x))
 
 -- a field's value gives its bytes back
-pub bytesLE-leAt : (w : ℕ) (s : List ℕ) (a : ℕ) → ((k : ℕ) → getD s k 0 < 256) → a + w ≤ length s → bytesLE w (leAt w s a) ≡ take w (drop a s)
+pub bytesLE-leAt : (w : ℕ) (s : List ℕ) (a : ℕ) → AreBytes s → a + w ≤ length s → bytesLE w (leAt w s a) ≡ take w (drop a s)
 unfolding leAt bytesLE
 bytesLE-leAt zero s a h l = refl
 bytesLE-leAt (suc w) s a h l =

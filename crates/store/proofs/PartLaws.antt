@@ -9,9 +9,9 @@ use native.Mathlib.Omega.{arith}
 use borrow.Rule.Slice.PartMut.{midOf, putMid}
 use lib.ListN.{length, getD, set, take, drop, length-append, length-take, length-drop, List·getD-append, take-append-drop, replicate, length-replicate, replicate-append-replicate}
 use lib.Seq.{length-take-le, getD-take, getD-drop, getD-append-add, ext-getD, take-set-lt, drop-set-add, take-at, drop-at, set-at, drop-cons, take-suc, drop-drop, take-take, append-snoc, take-nil, take-add}
-use Rattle.store.specs.Le.{leAt, bytesLE, putAt}
+use Rattle.store.specs.Le.{AreBytes, leAt, bytesLE, putAt}
 use Rattle.store.specs.Part.{part, splice}
-use Rattle.store.proofs.LeLaws.{leAt-ext, leAt-bytes, length-putAt, getD-putAt-below, getD-putAt-above}
+use Rattle.store.proofs.LeLaws.{leAt-ext, leAt-bytes, bytesLE-leAt, length-putAt, getD-putAt-below, getD-putAt-above}
 
 pub le-or-lt : (a b : ℕ) → (a ≤ b) ⊎ (b < a)
 le-or-lt zero b = inl zero-le
@@ -250,6 +250,11 @@ back-rest a n x s fits len =
 pub part-add : (a n m : ℕ) (s : List ℕ) → part a (n + m) s ≡ part a n s ++ part (a + n) m s
 unfolding part
 part-add a n m s = rw (take-add, drop-drop)
+
+-- a field is the bytes of its number
+pub part-bytes : (w a : ℕ) (s : List ℕ) → AreBytes s → a + w ≤ length s → part a w s ≡ bytesLE w (leAt w s a)
+unfolding part
+part-bytes w a s b h = sym (bytesLE-leAt w s a b h)
 
 -- what stands after the first n elements of a part
 pub part-peel : (a n m : ℕ) (x t s : List ℕ) → length x ≡ n → part a (n + m) s ≡ x ++ t → part (a + n) m s ≡ t

@@ -25,7 +25,7 @@ same-length : tie.Need-same-length
 same-length c = search needs
 
 returns : tie.Need-returns
-returns c = let k = c .before .before .before .before .before .before .before .before .before .before .before .before .before .before .before .before .before  in cc (head-done (k .args .out .now) (k .args .key) (k .args .n) (k .args .creator) (k .pre))
+returns c = let k = c .before .before .before .before .before .before .before .before .before .before .before .before .before .before .before .before .before in cc (head-done (k .args .out .now) (k .args .key) (k .args .n) (k .args .creator) (k .pre))
 
 pub put-head-spec : {M : Type 1} → statement M
 put-head-spec =
