@@ -5,6 +5,7 @@ ghost use Prim.Native.Nat.{_+_, _*_, _≤_, _<_};
 ghost use lib.ListN.{length};
 ghost use Rattle.page.specs.Page.{page};
 ghost use Rattle.page.specs.Pool.{goodPool, allocated, withFresh};
+use crate::PAGE_SIZE;
 
 // The numbers of a tree that are not in its pages.
 pub struct State {
@@ -20,8 +21,8 @@ pub struct Allocated {
 pub fn pool_is_good(pool: &[u8], st: State) -> bool
     ensures { λ r. ⌜ r ≡ goodPool (now (pool .entry)) st ⌝ }
 {
-    let n = pool.len() / 4096;
-    if pool.len() % 4096 != 0 {
+    let n = pool.len() / PAGE_SIZE;
+    if pool.len() % PAGE_SIZE != 0 {
         return false;
     }
     if n < 1 {
@@ -37,8 +38,8 @@ pub fn page_of(pool: &[u8], p: u32) -> &[u8]
     requires { ⌜ p * 4096 + 4096 ≤ length (now pool) ⌝ }
     ensures { λ r. ⌜ (now r ≡ page p (now (pool .entry))) × (length (now r) ≡ 4096) ⌝ }
 {
-    let a = p as usize * 4096;
-    let e = a + 4096;
+    let a = p as usize * PAGE_SIZE;
+    let e = a + PAGE_SIZE;
     &pool[a..e]
 }
 
@@ -49,8 +50,8 @@ pub fn allocate(pool: &mut [u8], st: State) -> Allocated
     ensures { λ _. ⌜ now (pool .exit) ≡ withFresh (now (pool .entry)) st ⌝ }
 {
     let p = st.used;
-    let a = p as usize * 4096;
-    store::run::zero_fill(pool, a, a + 4096);
+    let a = p as usize * PAGE_SIZE;
+    store::run::zero_fill(pool, a, a + PAGE_SIZE);
     Allocated {
         page: p,
         state: State {

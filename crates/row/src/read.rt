@@ -6,6 +6,8 @@ ghost use lib.ListN.{length};
 ghost use Rattle.store.specs.Le.{leAt};
 ghost use Rattle.row.specs.Read.{stampSize, pointerSize, stampIn, pointerIn, headAt, payloadAt, cellAt};
 use crate::Cell;
+use crate::FORMAT_VERSION;
+use crate::MAX_DATA;
 use crate::Pointer;
 use crate::Stamp;
 use crate::Version;
@@ -64,7 +66,7 @@ fn head_at(s: &[u8], i: usize, m: usize) -> HeadRead
     if m - i < 1 {
         return HeadRead::Bad(3);
     }
-    if store::get8(s, i) != 129 {
+    if store::get8(s, i) != FORMAT_VERSION {
         return HeadRead::Bad(1);
     }
     if m - i < 10 {
@@ -100,7 +102,7 @@ fn payload_at(s: &[u8], key: u32, i: usize, m: usize, past: bool) -> CellRead
             if past {
                 return CellRead::Bad(3);
             }
-            if 4051 < m - k {
+            if MAX_DATA < m - k {
                 return CellRead::Bad(4);
             }
             CellRead::Got(Cell {
