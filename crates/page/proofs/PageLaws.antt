@@ -1,5 +1,5 @@
 -- Laws of pages. Assumes nothing.
-use mathlib.Core.Path.{_≡_, refl, sym, ap, _∙_}
+use mathlib.Core.Path.{_≡_, sym, ap, _∙_}
 use mathlib.Core.List.{List}
 use mathlib.Core.Logic.{⊎-elim}
 use Prim.Native.Nat.{ℕ, _+_, _-_, _*_, _/_, _%_, _≤_, _<_}
@@ -8,7 +8,6 @@ use lib.ListN.{length, getD}
 use lib.Seq.{ext-getD}
 use borrow.Rule.Slice.PartMut.{midOf, putMid}
 use Rattle.store.specs.Le.{leAt, putAt}
-use Rattle.store.specs.Part.{part, splice}
 use Rattle.page.specs.Page.{page, setPage}
 use Rattle.store.proofs.PartLaws.{lent, back, le-or-lt, length-part, leAt-part, length-splice, part-splice, part-splice-below, part-splice-above, putAt-splice, splice-splice, splice-part, getD-part}
 

@@ -1,9 +1,8 @@
 -- What is proved of ranks: they have the keys' signed order, no two keys share one, and the stored bytes are the
 -- key's two's complement ("-1 is FF FF FF FF and sorts before 0", document 01, section 2).
 use mathlib.Core.Path.{_≡_}
-use mathlib.Core.List.{List, [], _∷_}
+use mathlib.Core.List.{[], _∷_}
 use mathlib.Core.Bool.{true}
-use Prim.Native.Nat.{ℕ}
 use lib.Dec.{ltb}
 use lib.IntN.{ℤ, pos, negsuc}
 use lib.Signed.{ltZ}

@@ -2,11 +2,11 @@
 use mathlib.Core.Path.{_≡_, refl, sym, ap, ap₂, _∙_, subst}
 use mathlib.Core.Bool.{Bool, true, false, not, _&&_, _||_}
 use mathlib.Core.List.{List, [], _∷_, _++_, append-assoc}
-use Prim.Native.Nat.{ℕ, zero, suc, _+_, _-_, _^_, _≤_, _<_}
+use Prim.Native.Nat.{ℕ, zero, suc, _+_, _-_, _≤_, _<_}
 use native.Mathlib.Omega.{arith}
 use borrow.Author.Tests.{eqb-true, eqb-false, leb-true, ltb-false, lt-ltb, not-false}
 use lib.Dec.{ltb, leb, eqb}
-use lib.ListN.{length, length-append}
+use lib.ListN.{length}
 use Rattle.store.specs.Pick.{pick}
 use Rattle.store.specs.Le.{AreBytes, leAt, bytesLE}
 use Rattle.store.specs.Part.{part}
@@ -16,13 +16,13 @@ use Rattle.page.specs.Key.{flip, keyBytes, rankAt}
 use Rattle.page.proofs.KeyLaws.{flip-flip, flip-less}
 use Rattle.row.specs.Read.{stampSize, pointerSize, stampIn, pointerIn, pointerPlace, dataPlace, flagBad, headFault, dataFault, orCell, headAt, cellIn, payloadAt, cellAt}
 use Rattle.row.specs.Write.{stampBytes, pointerBytes, stampLen, pointerLen, cellSize, headBytes, cellBytes, recordBytes}
-use Rattle.row.specs.Exact.{StampFits, PointerFits, cellOf, WrittenIsRead, CellIs, ReadIsWritten, WorkedRecord}
+use Rattle.row.specs.Exact.{StampFits, PointerFits, WrittenIsRead, CellIs, ReadIsWritten, WorkedRecord}
 use Rattle.row.specs.declared.Stamp.{Stamp}
 use Rattle.row.specs.declared.Pointer.{Pointer}
 use Rattle.row.specs.declared.Cell.{Cell}
 use Rattle.row.specs.declared.read.CellRead.{CellRead}
 use Rattle.row.proofs.Reading.{pick-zero, places, stamp-size-none, stamp-size-by, pointer-size-none, pointer-size-at, stamp-none, stamp-by, pointer-none, pointer-at, pointer-place, data-place, head-got, head-is, payload-cell, cell-whole, data-within, stamp-inside, pointer-inside}
-use Rattle.row.proofs.Writing.{stamp-len, pointer-len, length-stamp, length-pointer, length-head}
+use Rattle.row.proofs.Writing.{stamp-len, pointer-len, length-stamp}
 
 -- the bytes of a cell, field after field
 pub cell-flat : (key creator : ℕ) (st : Stamp) (pt : Pointer) (body : List ℕ)
@@ -135,9 +135,9 @@ written-is-read s at key creator st pt body fk fc fs fp fb inside e =
     let is = head-is s i m {r = headAt s i m} refl (sym got) in
     let len : m - k ≡ n = omega arith in
     let end : at + cellSize st pt n ≡ m = omega arith in
-    let cell = payload-cell s key i m is {past = false} refl (rw len fb) (sym (h .creator-there)) (sym (h .stamp-here .same)) (sym (h .pointer-here .same)) in
     let key-is : key ≡ rankAt s at = sym (ap flip (h .key-there) ∙ flip-flip key fk) in
-    rw end (sym (rw len at (cell-whole s at (omega arith) (sym (h .length-there)) (omega arith) key-is cell)))
+    let cell = payload-cell s at m is {past = false} refl (rw len fb) key-is (sym (h .creator-there)) (sym (h .stamp-here .same)) (sym (h .pointer-here .same)) in
+    rw end (sym (rw len at (cell-whole s at (omega arith) (sym (h .length-there)) (omega arith) cell)))
 
 -- ---- what is read was written
 
@@ -146,22 +146,22 @@ record Accepted (s : List ℕ) (at : ℕ) (c : Cell) : Type 0 where
   inside : at + 8 + leAt 4 s (at + 4) ≤ length s
   head-sound : headFault s (at + 8) (at + 8 + leAt 4 s (at + 4)) ≡ 0
   data-sound : dataFault s (at + 8) (at + 8 + leAt 4 s (at + 4)) false ≡ 0
-  same : cellIn s (rankAt s at) (at + 8) (at + 8 + leAt 4 s (at + 4)) ≡ c
+  same : cellIn s at (at + 8 + leAt 4 s (at + 4)) ≡ c
 
 or-cell-got : (f : ℕ) (r : CellRead) {c : Cell} → orCell f r ≡ CellRead.Got c → (f ≡ 0) × (r ≡ CellRead.Got c)
 or-cell-got zero r e = (refl, e)
 or-cell-got (suc f) r e = absurd (let z : _≡_ {A = ℕ} 0 1 = cc in omega arith)
 
-past-bad : (s : List ℕ) (key i m : ℕ) {c : Cell} → payloadAt s key i m true ≡ CellRead.Got c → ⊥
+past-bad : (s : List ℕ) (at m : ℕ) {c : Cell} → payloadAt s at m true ≡ CellRead.Got c → ⊥
 unfolding payloadAt dataFault
-past-bad s key i m e = let z : _≡_ {A = ℕ} 0 1 = cc (or-cell-got (headFault s i m) (CellRead.Bad 3) e .1) in omega arith
+past-bad s at m e = let z : _≡_ {A = ℕ} 0 1 = cc (or-cell-got (headFault s (at + 8) m) (CellRead.Bad 3) e .1) in omega arith
 
-whole-got : (s : List ℕ) (key i m : ℕ) {c : Cell} → payloadAt s key i m false ≡ CellRead.Got c
-    → (headFault s i m ≡ 0) × (dataFault s i m false ≡ 0) × (cellIn s key i m ≡ c)
+whole-got : (s : List ℕ) (at m : ℕ) {c : Cell} → payloadAt s at m false ≡ CellRead.Got c
+    → (headFault s (at + 8) m ≡ 0) × (dataFault s (at + 8) m false ≡ 0) × (cellIn s at m ≡ c)
 unfolding payloadAt
-whole-got s key i m e =
-    let o = or-cell-got (headFault s i m) (orCell (dataFault s i m false) (CellRead.Got (cellIn s key i m))) e in
-    let p = or-cell-got (dataFault s i m false) (CellRead.Got (cellIn s key i m)) (o .1) in
+whole-got s at m e =
+    let o = or-cell-got (headFault s (at + 8) m) (orCell (dataFault s (at + 8) m false) (CellRead.Got (cellIn s at m))) e in
+    let p = or-cell-got (dataFault s (at + 8) m false) (CellRead.Got (cellIn s at m)) (o .1) in
     let q = p .1 in
     (o .0, p .0, cc)
 
@@ -179,11 +179,11 @@ accepted s at c e = by-head (leb (at + 8) (length s)) (leb (at + 8 + leAt 4 s (a
     m = at + 8 + leAt 4 s (at + 4)
 
     by-head : (b d : Bool) → leb m (length s) ≡ d
-        → pick b (pick d (payloadAt s key i m false) (payloadAt s key i (length s) true)) (CellRead.Bad 3) ≡ CellRead.Got c → Accepted s at c
+        → pick b (pick d (payloadAt s at m false) (payloadAt s at (length s) true)) (CellRead.Bad 3) ≡ CellRead.Got c → Accepted s at c
     by-head true true t q =
-        let w = whole-got s key i m q in
+        let w = whole-got s at m q in
         record { inside = leb-true m (length s) t; head-sound = w .0; data-sound = w .1; same = w .2 }
-    by-head true false t q = absurd (past-bad s key i (length s) q)
+    by-head true false t q = absurd (past-bad s at (length s) q)
     by-head false d t q = absurd (let z : _≡_ {A = ℕ} 0 1 = cc in omega arith)
 
 and-right : (a b : Bool) → (a && b) ≡ false → a ≡ true → b ≡ false
@@ -315,7 +315,7 @@ module _ (s : List ℕ) (B : AreBytes s) (at n : ℕ) (st : Stamp) (pt : Pointer
       )
 
 accepted-is : (s : List ℕ) (at : ℕ) → AreBytes s → at + 8 + leAt 4 s (at + 4) ≤ length s → headFault s (at + 8) (at + 8 + leAt 4 s (at + 4)) ≡ 0
-    → dataFault s (at + 8) (at + 8 + leAt 4 s (at + 4)) false ≡ 0 → CellIs s at (cellIn s (rankAt s at) (at + 8) (at + 8 + leAt 4 s (at + 4)))
+    → dataFault s (at + 8) (at + 8 + leAt 4 s (at + 4)) false ≡ 0 → CellIs s at (cellIn s at (at + 8 + leAt 4 s (at + 4)))
 unfolding cellIn dataFault
 accepted-is s at B inside hf df =
     let i = at + 8 in
@@ -337,10 +337,11 @@ accepted-is s at B inside hf df =
     let len-is : leAt 4 s (at + 4) ≡ 9 + stampLen st + pointerLen pt + n = omega (arith, snd .data-in) in
     let body-len : length (part (dataPlace s i) n s) ≡ n = length-part (dataPlace s i) n s (omega (arith, snd .data-in)) in
     record {
+      here = refl;
       inside = inside;
       few = few;
       place =
-          ap₂ (λ (x y : ℕ). record { key = rankAt s at; version = record { creator = leAt 8 s (i + 1); stamp = st; pointer = pt; start = x; len = n }; next = y }) start-is next-is;
+          ap₂ (λ (x y : ℕ). record { at = at; key = rankAt s at; version = record { creator = leAt 8 s (i + 1); stamp = st; pointer = pt; start = x; len = n }; next = y }) start-is next-is;
       key-fits = flip-less (leAt 4 s at);
       creator-fits = leAt-lt 8 s (i + 1) B;
       stamp-fits = is-st .fits;

@@ -1,11 +1,11 @@
 -- The ways out of the reader, one law each, and what a cell that was read gives the caller. Assumes nothing.
-use mathlib.Core.Path.{_≡_, refl, sym, ap, _∙_}
+use mathlib.Core.Path.{_≡_, refl, sym, _∙_}
 use mathlib.Core.Bool.{Bool, true, false, not, _&&_, _||_}
 use mathlib.Core.List.{List}
 use Prim.Native.Nat.{ℕ, zero, suc, _+_, _-_, _≤_, _<_}
 use native.Mathlib.Omega.{arith}
 use borrow.Author.Tests.{lt-ltb, le-ltb, le-leb, lt-leb, eq-eqb, ne-eqb, ltb-false}
-use lib.Dec.{ltb, leb, eqb}
+use lib.Dec.{ltb, eqb}
 use lib.ListN.{length}
 use Rattle.store.specs.Pick.{pick}
 use Rattle.store.specs.Le.{leAt}
@@ -13,7 +13,6 @@ use Rattle.page.specs.Key.{rankAt}
 use Rattle.row.specs.Read.{stampSize, pointerSize, stampIn, pointerIn, pointerPlace, dataPlace, flagBad, headFault, dataFault, orHead, orCell, headAt, cellIn, payloadAt, cellAt}
 use Rattle.row.specs.declared.Stamp.{Stamp}
 use Rattle.row.specs.declared.Pointer.{Pointer}
-use Rattle.row.specs.declared.Cell.{Cell}
 use Rattle.row.specs.declared.read.HeadRead.{HeadRead}
 use Rattle.row.specs.declared.read.CellRead.{CellRead}
 
@@ -189,23 +188,25 @@ module _ (s : List ℕ) (i m : ℕ) {r : HeadRead} (is : r ≡ headAt s i m) whe
       let k-is : k ≡ dataPlace s i = cc in
       record { sound = o .0; flag = j-is; start = k-is; within = rw k-is (data-within s i m (o .0)); after = omega arith; apart = omega arith }
 
-  pub payload-bad : (key : ℕ) (past : Bool) {n : ℕ} → r ≡ HeadRead.Bad n → CellRead.Bad n ≡ payloadAt s key i m past
+module _ (s : List ℕ) (at m : ℕ) where
+  pub payload-bad : (past : Bool) {r : HeadRead} {n : ℕ} → r ≡ headAt s (at + 8) m → r ≡ HeadRead.Bad n → CellRead.Bad n ≡ payloadAt s at m past
   unfolding headAt payloadAt
-  payload-bad key past e = or-bad (headFault s i m) (pointerPlace s i) (dataPlace s i) _ (sym is ∙ e)
+  payload-bad past is e = or-bad (headFault s (at + 8) m) (pointerPlace s (at + 8)) (dataPlace s (at + 8)) _ (sym is ∙ e)
 
-module _ (s : List ℕ) (key i m : ℕ) {j k : ℕ} (h : HeadIs s i m j k) where
-  pub payload-past : {past : Bool} → past ≡ true → CellRead.Bad 3 ≡ payloadAt s key i m past
-  unfolding payloadAt dataFault
-  payload-past e = rw (h .sound, e)
+  module _ {j k : ℕ} (h : HeadIs s (at + 8) m j k) where
+    pub payload-past : {past : Bool} → past ≡ true → CellRead.Bad 3 ≡ payloadAt s at m past
+    unfolding payloadAt dataFault
+    payload-past e = rw (h .sound, e)
 
-  pub payload-long : {past : Bool} → past ≡ false → 4051 < m - k → CellRead.Bad 4 ≡ payloadAt s key i m past
-  unfolding payloadAt dataFault
-  payload-long e l = rw (h .sound, e, lt-ltb 4051 (m - dataPlace s i) (rw (h .start) at l))
+    pub payload-long : {past : Bool} → past ≡ false → 4051 < m - k → CellRead.Bad 4 ≡ payloadAt s at m past
+    unfolding payloadAt dataFault
+    payload-long e l = rw (h .sound, e, lt-ltb 4051 (m - dataPlace s (at + 8)) (rw (h .start) at l))
 
-  pub payload-cell : {past : Bool} {t : ℕ} {st : Stamp} {pt : Pointer} → past ≡ false → m - k ≤ 4051 → t ≡ leAt 8 s (i + 1) → st ≡ stampIn s (i + 9) → pt ≡ pointerIn s j
-      → CellRead.Got (record { key = key; version = record { creator = t; stamp = st; pointer = pt; start = k; len = m - k }; next = m }) ≡ payloadAt s key i m past
-  unfolding payloadAt dataFault cellIn
-  payload-cell e l p q u = rw (h .sound, e, le-ltb 4051 (m - dataPlace s i) (rw (h .start) at l), p, q, u, h .flag, h .start)
+    pub payload-cell : {past : Bool} {key t : ℕ} {st : Stamp} {pt : Pointer} → past ≡ false → m - k ≤ 4051 → key ≡ rankAt s at → t ≡ leAt 8 s (at + 8 + 1)
+        → st ≡ stampIn s (at + 8 + 9) → pt ≡ pointerIn s j
+        → CellRead.Got (record { at = at; key = key; version = record { creator = t; stamp = st; pointer = pt; start = k; len = m - k }; next = m }) ≡ payloadAt s at m past
+    unfolding payloadAt dataFault cellIn
+    payload-cell e l a p q u = rw (h .sound, e, le-ltb 4051 (m - dataPlace s (at + 8)) (rw (h .start) at l), a, p, q, u, h .flag, h .start)
 
 -- the stamp and the pointer lie inside the payload
 pub stamp-inside : (s : List ℕ) (i : ℕ) {j : ℕ} → j ≡ pointerPlace s i → i + 9 + stampSize (leAt 1 s (i + 9)) ≡ j
@@ -221,12 +222,10 @@ module _ (s : List ℕ) (at : ℕ) where
   unfolding cellAt
   cell-short h = rw (lt-leb (at + 8) (length s) h)
 
-  pub cell-past : {key : ℕ} {r : CellRead} → at + 8 ≤ length s → length s - (at + 8) < leAt 4 s (at + 4) → key ≡ rankAt s at
-      → r ≡ payloadAt s key (at + 8) (length s) true → r ≡ cellAt s at
+  pub cell-past : {r : CellRead} → at + 8 ≤ length s → length s - (at + 8) < leAt 4 s (at + 4) → r ≡ payloadAt s at (length s) true → r ≡ cellAt s at
   unfolding cellAt
-  cell-past h l k e = e ∙ rw (le-leb (at + 8) (length s) h, lt-leb (at + 8 + leAt 4 s (at + 4)) (length s) (omega arith), k)
+  cell-past h l e = e ∙ rw (le-leb (at + 8) (length s) h, lt-leb (at + 8 + leAt 4 s (at + 4)) (length s) (omega arith))
 
-  pub cell-whole : {key n : ℕ} {r : CellRead} → at + 8 ≤ length s → n ≡ leAt 4 s (at + 4) → n ≤ length s - (at + 8) → key ≡ rankAt s at
-      → r ≡ payloadAt s key (at + 8) (at + 8 + n) false → r ≡ cellAt s at
+  pub cell-whole : {n : ℕ} {r : CellRead} → at + 8 ≤ length s → n ≡ leAt 4 s (at + 4) → n ≤ length s - (at + 8) → r ≡ payloadAt s at (at + 8 + n) false → r ≡ cellAt s at
   unfolding cellAt
-  cell-whole h q l k e = e ∙ rw (le-leb (at + 8) (length s) h, le-leb (at + 8 + leAt 4 s (at + 4)) (length s) (omega arith), k, q)
+  cell-whole h q l e = e ∙ rw (le-leb (at + 8) (length s) h, le-leb (at + 8 + leAt 4 s (at + 4)) (length s) (omega arith), q)

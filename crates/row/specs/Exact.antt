@@ -28,6 +28,7 @@ PointerFits (Pointer.At p t) = (p < 4294967296) × (t < 65536)
 abbrev pub cellOf : (at key creator : ℕ) → Stamp → Pointer → ℕ → Cell
 cellOf at key creator st pt n =
     record {
+      at = at;
       key = key;
       version = record { creator = creator; stamp = st; pointer = pt; start = at + (17 + stampLen st + pointerLen pt); len = n };
       next = at + cellSize st pt n;
@@ -43,6 +44,7 @@ WrittenIsRead =
 
 -- what is read is what a version writes, and lies inside the bytes
 pub record CellIs (s : List ℕ) (at : ℕ) (c : Cell) : Type 0 where
+  pub here : c .at ≡ at
   pub inside : c .next ≤ length s
   pub few : c .version .len ≤ 4051
   pub place : c ≡ cellOf at (c .key) (c .version .creator) (c .version .stamp) (c .version .pointer) (c .version .len)

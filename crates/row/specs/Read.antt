@@ -10,7 +10,6 @@ use Rattle.store.specs.Le.{leAt}
 use Rattle.page.specs.Key.{rankAt}
 use Rattle.row.specs.declared.Stamp.{Stamp}
 use Rattle.row.specs.declared.Pointer.{Pointer}
-use Rattle.row.specs.declared.Version.{Version}
 use Rattle.row.specs.declared.Cell.{Cell}
 use Rattle.row.specs.declared.read.HeadRead.{HeadRead}
 use Rattle.row.specs.declared.read.CellRead.{CellRead}
@@ -63,30 +62,31 @@ orCell (suc k) c = CellRead.Bad (suc k)
 unfoldable pub headAt : List ℕ → (i m : ℕ) → HeadRead
 headAt s i m = orHead (headFault s i m) (HeadRead.Got (pointerPlace s i) (dataPlace s i))
 
--- the cell of a payload from i to m
-unfoldable pub cellIn : List ℕ → (key i m : ℕ) → Cell
-cellIn s key i m =
+-- the cell at `at` whose payload ends at m
+unfoldable pub cellIn : List ℕ → (at m : ℕ) → Cell
+cellIn s at m =
     record {
-      key = key;
+      at = at;
+      key = rankAt s at;
       version =
           record {
-            creator = leAt 8 s (i + 1);
-            stamp = stampIn s (i + 9);
-            pointer = pointerIn s (pointerPlace s i);
-            start = dataPlace s i;
-            len = m - dataPlace s i;
+            creator = leAt 8 s (at + 8 + 1);
+            stamp = stampIn s (at + 8 + 9);
+            pointer = pointerIn s (pointerPlace s (at + 8));
+            start = dataPlace s (at + 8);
+            len = m - dataPlace s (at + 8);
           };
       next = m;
     }
 
-unfoldable pub payloadAt : List ℕ → (key i m : ℕ) → Bool → CellRead
-payloadAt s key i m past = orCell (headFault s i m) (orCell (dataFault s i m past) (CellRead.Got (cellIn s key i m)))
+unfoldable pub payloadAt : List ℕ → (at m : ℕ) → Bool → CellRead
+payloadAt s at m past = orCell (headFault s (at + 8) m) (orCell (dataFault s (at + 8) m past) (CellRead.Got (cellIn s at m)))
 
 -- "signed 32-bit key, payload length u32, payload": a cell whose first 8 bytes do not fit is of kind 3
 unfoldable pub cellAt : List ℕ → ℕ → CellRead
 cellAt s at =
     pick (leb (at + 8) (length s))
     (pick (leb (at + 8 + leAt 4 s (at + 4)) (length s))
-    (payloadAt s (rankAt s at) (at + 8) (at + 8 + leAt 4 s (at + 4)) false)
-    (payloadAt s (rankAt s at) (at + 8) (length s) true))
+    (payloadAt s at (at + 8 + leAt 4 s (at + 4)) false)
+    (payloadAt s at (length s) true))
     (CellRead.Bad 3)

@@ -27,8 +27,9 @@ pub struct Version {
     pub len: usize,
 }
 
-// The key is its rank; next is the offset past the cell.
+// From offset at to offset next; the key is its rank.
 pub struct Cell {
+    pub at: usize,
     pub key: u32,
     pub version: Version,
     pub next: usize,

@@ -91,11 +91,12 @@ fn head_at(s: &[u8], i: usize, m: usize) -> HeadRead
     HeadRead::Got(j, k)
 }
 
-// The cell of that key, if the payload is whole; past says that it goes on beyond the bytes that are there.
-fn payload_at(s: &[u8], key: u32, i: usize, m: usize, past: bool) -> CellRead
-    requires { ⌜ (i ≤ m) × (m ≤ length (now s)) ⌝ }
-    ensures { λ r. ⌜ r ≡ payloadAt (now (s .entry)) key i m past ⌝ }
+// The cell at that offset, if its payload is whole; past says that it goes on beyond m, where the bytes that are there end.
+fn payload_at(s: &[u8], at: usize, m: usize, past: bool) -> CellRead
+    requires { ⌜ (at + 8 ≤ m) × (m ≤ length (now s)) ⌝ }
+    ensures { λ r. ⌜ r ≡ payloadAt (now (s .entry)) at m past ⌝ }
 {
+    let i = at + 8;
     match head_at(s, i, m) {
         HeadRead::Bad(kind) => CellRead::Bad(kind),
         HeadRead::Got(j, k) => {
@@ -106,7 +107,8 @@ fn payload_at(s: &[u8], key: u32, i: usize, m: usize, past: bool) -> CellRead
                 return CellRead::Bad(4);
             }
             CellRead::Got(Cell {
-                key,
+                at,
+                key: page::key::get_rank(s, at),
                 version: Version {
                     creator: store::get64(s, i + 1),
                     stamp: stamp_in(s, i + 9),
@@ -129,11 +131,10 @@ pub fn read_cell(s: &[u8], at: usize) -> CellRead
     if s.len() - 8 < at {
         return CellRead::Bad(3);
     }
-    let key = page::key::get_rank(s, at);
     let n = store::get32(s, at + 4) as usize;
     let i = at + 8;
     if s.len() - i < n {
-        return payload_at(s, key, i, s.len(), true);
+        return payload_at(s, at, s.len(), true);
     }
-    payload_at(s, key, i, i + n, false)
+    payload_at(s, at, i + n, false)
 }

@@ -1,13 +1,13 @@
 -- Laws of the little-endian numbers, each once over the width. Assumes nothing.
-use mathlib.Core.Path.{_≡_, refl, sym, ap, ap₂, _∙_, subst}
+use mathlib.Core.Path.{_≡_, refl, sym, ap, ap₂, _∙_}
 use mathlib.Core.List.{List, [], _∷_, _++_, append-assoc}
 use Prim.Native.Nat.{ℕ, zero, suc, _+_, _-_, _*_, _/_, _%_, _^_, _≤_, _<_}
-use native.Mathlib.Nat.{zero-add, suc-add, add-zero, add-suc, add-assoc, mul-assoc, mul-comm, mul-add, one-mul, pow-zero, pow-suc, mod-lt, mod-eq-of-lt, mod-one, div-one, one-le-pow, zero-lt-suc, div-div-eq-div-mul}
+use native.Mathlib.Nat.{zero-add, suc-add, add-zero, mul-assoc, mul-comm, one-mul, pow-zero, pow-suc, mod-eq-of-lt, mod-one, div-one, one-le-pow, zero-lt-suc, div-div-eq-div-mul}
 use native.Mathlib.Numerals.{add-one}
 use native.Mathlib.Omega.{arith}
-use lib.Arith.{digits-div, digits-mod, mod-mul}
+use lib.Arith.{mod-mul}
 use lib.ListN.{length, getD, set, take, drop, length-set, length-append, take-append-drop}
-use lib.Seq.{getD-set-same, getD-set-other, getD-take, getD-drop, set-split, drop-set-lt, take-suc-set, drop-cons, getD-at, append-snoc}
+use lib.Seq.{getD-set-same, getD-set-other, drop-set-lt, take-suc-set, drop-cons, getD-at, append-snoc}
 use Rattle.store.specs.Le.{AreBytes, leAt, bytesLE, putAt}
 
 -- ---- powers of 256
@@ -47,12 +47,6 @@ leAt-ext (suc w) s t a b h =
     let ea : a + 1 + k ≡ a + suc k = omega arith in
     let eb : b + 1 + k ≡ b + suc k = omega arith in
     rw (ea, eb) (h (suc k) (omega arith))))
-
-pub leAt-drop : (w n : ℕ) (s : List ℕ) (a : ℕ) → leAt w (drop n s) a ≡ leAt w s (n + a)
-leAt-drop w n s a = leAt-ext w (drop n s) s a (n + a) (λ k l. rw (getD-drop, add-assoc))
-
-pub leAt-take : (w n : ℕ) (s : List ℕ) (a : ℕ) → a + w ≤ n → leAt w (take n s) a ≡ leAt w s a
-leAt-take w n s a h = leAt-ext w (take n s) s a a (λ k l. getD-take n s (a + k) 0 (omega arith))
 
 pub leAt-lt : (w : ℕ) (s : List ℕ) (a : ℕ) → AreBytes s → leAt w s a < 256 ^ w
 unfolding leAt

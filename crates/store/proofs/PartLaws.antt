@@ -1,14 +1,14 @@
 -- Laws of a part and of a list with a part replaced. Assumes nothing.
-use mathlib.Core.Path.{_≡_, refl, sym, ap, ap₂, _∙_}
-use mathlib.Core.List.{List, [], _∷_, _++_, append-assoc, append-nil}
+use mathlib.Core.Path.{_≡_, refl, sym, ap, _∙_}
+use mathlib.Core.List.{List, [], _∷_, _++_}
 use mathlib.Core.Logic.{_⊎_, inl, inr, ⊎-elim}
-use Prim.Native.Nat.{ℕ, zero, suc, _+_, _-_, _*_, _/_, _%_, _^_, _≤_, _<_, zero-le, suc-le-suc}
-use native.Mathlib.Nat.{sub-zero, zero-sub, suc-sub-suc, add-zero, add-assoc, add-sub-of-le, min-eq-left, mod-eq-of-lt}
+use Prim.Native.Nat.{ℕ, zero, suc, _+_, _-_, _/_, _%_, _^_, _≤_, _<_, zero-le, suc-le-suc}
+use native.Mathlib.Nat.{sub-zero, zero-sub, suc-sub-suc, add-assoc, mod-eq-of-lt}
 use native.Mathlib.Numerals.{add-one}
 use native.Mathlib.Omega.{arith}
 use borrow.Rule.Slice.PartMut.{midOf, putMid}
-use lib.ListN.{length, getD, set, take, drop, length-append, length-take, length-drop, List·getD-append, take-append-drop, replicate, length-replicate, replicate-append-replicate}
-use lib.Seq.{length-take-le, getD-take, getD-drop, getD-append-add, ext-getD, take-set-lt, drop-set-add, take-at, drop-at, set-at, drop-cons, take-suc, drop-drop, take-take, append-snoc, take-nil, take-add}
+use lib.ListN.{length, getD, set, take, drop, length-append, length-take, length-drop, List·getD-append, take-append-drop}
+use lib.Seq.{length-take-le, getD-take, getD-drop, getD-append-add, ext-getD, take-set-lt, drop-set-add, take-at, drop-at, take-suc, drop-drop, take-take, take-nil, take-add}
 use Rattle.store.specs.Le.{AreBytes, leAt, bytesLE, putAt}
 use Rattle.store.specs.Part.{part, splice}
 use Rattle.store.proofs.LeLaws.{leAt-ext, leAt-bytes, bytesLE-leAt, length-putAt, getD-putAt-below, getD-putAt-above}
@@ -152,39 +152,13 @@ splice-splice a n x y s fits len =
     let e : length (take a s) ≡ a = length-take-le a s (omega arith) in
     rw (take-at (take a s) (x ++ drop n (drop a s)) a e, drop-at (take a s) (x ++ drop n (drop a s)) a e, drop-at x (drop n (drop a s)) n len)
 
--- ---- a part that a loop writes element by element
-
-pub splice-none : (a : ℕ) (s : List ℕ) → splice a 0 [] s ≡ s
-unfolding splice
-splice-none a s = take-append-drop a s
-
--- one more element written: the n elements become n + 1
-pub splice-snoc : (a n : ℕ) (x s : List ℕ) (v : ℕ) → a + n < length s → length x ≡ n → set (splice a n x s) (a + n) v ≡ splice a (n + 1) (x ++ (v ∷ [])) s
-unfolding splice
-splice-snoc a n x s v h len =
-    let e : length (take a s) ≡ a = length-take-le a s (omega arith) in
-    let el : length (take a s ++ x) ≡ a + n = length-append (take a s) x ∙ ap₂ (λ (i j : ℕ). i + j) e len in
-    let hd : n < length (drop a s) = rw length-drop (omega arith) in
-    rw (drop-cons (drop a s) n 0 hd, ← append-assoc, set-at (take a s ++ x) (getD (drop a s) n 0) (drop (suc n) (drop a s)) v (a + n) el, add-one)
-    (simp append-assoc)
-
-pub replicate-snoc : (n v : ℕ) → replicate n v ++ (v ∷ []) ≡ replicate (n + 1) v
-replicate-snoc n v = replicate-append-replicate n 1 v
+-- one element more
 
 pub part-snoc : (f n : ℕ) (s : List ℕ) → f + n < length s → part f n s ++ (getD s (f + n) 0 ∷ []) ≡ part f (n + 1) s
 unfolding part
 part-snoc f n s h =
     let hd : n < length (drop f s) = rw length-drop (omega arith) in
     rw (add-one, take-suc (drop f s) n 0 hd, getD-drop)
-
--- a turn of a loop that writes one value
-pub clear-step : (a i v : ℕ) (s : List ℕ) → a + i < length s → set (splice a i (replicate i v) s) (a + i) v ≡ splice a (i + 1) (replicate (i + 1) v) s
-clear-step a i v s h = splice-snoc a i (replicate i v) s v h (length-replicate i v) ∙ ap (λ (x : List ℕ). splice a (i + 1) x s) (replicate-snoc i v)
-
--- a turn of a loop that copies
-pub copy-step : (a f i : ℕ) (t s : List ℕ) → a + i < length s → f + i < length t → set (splice a i (part f i t) s) (a + i) (getD t (f + i) 0) ≡ splice a (i + 1) (part f (i + 1) t) s
-copy-step a f i t s h k =
-    splice-snoc a i (part f i t) s (getD t (f + i) 0) h (length-part f i t (omega arith)) ∙ ap (λ (x : List ℕ). splice a (i + 1) x s) (part-snoc f i t k)
 
 -- ---- a part of a part
 
@@ -222,28 +196,6 @@ splice-within a n b m x s fits h len =
     (λ i l. getD-splice-below (a + b) m x s f len i (omega arith))
     (part-around a n b m x s fits h len)
     (λ i l k. getD-splice-above (a + b) m x s f len i (omega arith)))
-
--- a field of what was replaced
-pub leAt-splice : (w a n : ℕ) (x s : List ℕ) (b : ℕ) → a + n ≤ length s → length x ≡ n → b + w ≤ n → leAt w (splice a n x s) (a + b) ≡ leAt w x b
-leAt-splice w a n x s b fits len h =
-    leAt-ext w (splice a n x s) x (a + b) b (λ k l.
-    ap (λ (i : ℕ). getD (splice a n x s) i 0) (add-assoc a b k) ∙ getD-splice-in a n x s fits len (b + k) (omega arith))
-
--- a field written right after a part makes the part longer: how a cell is written field by field
-pub putAt-grow : (w a n : ℕ) (x s : List ℕ) (v : ℕ) → a + n + w ≤ length s → length x ≡ n → putAt w (splice a n x s) (a + n) v ≡ splice a (n + w) (x ++ bytesLE w v) s
-unfolding putAt bytesLE
-putAt-grow zero a n x s v h len = rw (add-zero, append-nil)
-putAt-grow (suc w) a n x s v h len =
-    let e : a + n + 1 ≡ a + (n + 1) = omega arith in
-    let e2 : n + 1 + w ≡ n + suc w = omega arith in
-    let l : length (x ++ (v % 256 ∷ [])) ≡ n + 1 = length-append x (v % 256 ∷ []) ∙ ap (λ (k : ℕ). k + 1) len in
-    rw (splice-snoc a n x s (v % 256) (omega arith) len, e, putAt-grow w a (n + 1) (x ++ (v % 256 ∷ [])) s (v / 256) (omega arith) l, e2, append-snoc)
-
--- what the borrow checker says of `&mut s[a..]`, where the n elements from the start were replaced
-pub back-rest : (a n : ℕ) (x s : List ℕ) → a + n ≤ length s → length x ≡ n → putMid a (length s - a) s (splice 0 n x (midOf a (length s - a) s)) ≡ splice a n x s
-unfolding splice part
-back-rest a n x s fits len =
-    splice-within a (length s - a) 0 n x s (omega arith) (omega arith) len ∙ ap (λ (k : ℕ). splice k n x s) (add-zero a)
 
 -- ---- a list taken apart, field by field
 

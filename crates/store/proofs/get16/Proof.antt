@@ -3,39 +3,28 @@ use Rattle.store.specs.Le.{leAt}
 use borrow.Author.Needs.{needs}
 use Rattle.store.proofs.get16.Statement.{statement}
 use Rattle.store.proofs.get16.Tie as tie
-use Rattle.store.proofs.get16.Reads as reads
-use Rattle.store.proofs.get16.Lts as lts
-use Rattle.store.proofs.wide16.Reads as wide16-reads
 
--- src/lib.rt:17:13
 add-b : tie.Need-add-b
 add-b c = search needs
 
--- src/lib.rt:18:12
 shared-slice-read-wide16 : tie.Need-shared-slice-read-wide16
 shared-slice-read-wide16 c = search needs
 
--- src/lib.rt:18:5
 wide16-requires : tie.Need-wide16-requires
 wide16-requires c κs = search needs
 
--- src/lib.rt:18:33
 shared-slice-read-wide16-2 : tie.Need-shared-slice-read-wide16-2
 shared-slice-read-wide16-2 c = search needs
 
--- src/lib.rt:18:26
 wide16-requires-2 : tie.Need-wide16-requires-2
 wide16-requires-2 c κs = search needs
 
--- src/lib.rt:18:20
 mul-result : tie.Need-mul-result
 mul-result c = search needs
 
--- src/lib.rt:18:5
 add-result : tie.Need-add-result
 add-result c = search needs
 
--- src/lib.rt:13:1
 returns : tie.Need-returns
 unfolding leAt
 returns c = omega arith

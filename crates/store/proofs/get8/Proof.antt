@@ -2,8 +2,6 @@ use borrow.Author.Needs.{needs}
 use Rattle.store.specs.Le.{leAt}
 use Rattle.store.proofs.get8.Statement.{statement}
 use Rattle.store.proofs.get8.Tie as tie
-use Rattle.store.proofs.get8.Reads as reads
-use Rattle.store.proofs.get8.Lts as lts
 
 shared-slice-read-result : tie.Need-shared-slice-read-result
 shared-slice-read-result c = search needs

@@ -5,34 +5,25 @@ use Rattle.store.specs.Le.{putAt}
 use borrow.Author.Needs.{needs}
 use Rattle.store.proofs.put16.Statement.{statement}
 use Rattle.store.proofs.put16.Tie as tie
-use Rattle.store.proofs.put16.Reads as reads
-use Rattle.store.proofs.put16.Lts as lts
 
--- src/lib.rt:43:13
 add-b : tie.Need-add-b
 add-b c = search needs
 
--- src/lib.rt:44:12
 cast-s : tie.Need-cast-s
 cast-s c = search needs
 
--- src/lib.rt:44:5
 slice-write-s : tie.Need-slice-write-s
 slice-write-s c = search needs
 
--- src/lib.rt:45:12
 cast-s-2 : tie.Need-cast-s-2
 cast-s-2 c = search needs
 
--- src/lib.rt:45:5
 slice-write-s-2 : tie.Need-slice-write-s-2
 slice-write-s-2 c = simp length-set (omega arith)
 
--- src/lib.rt:39:1
 same-length : tie.Need-same-length
 same-length c = search needs
 
--- src/lib.rt:39:1
 returns : tie.Need-returns
 unfolding putAt
 returns c = refl

@@ -2,35 +2,25 @@ use Rattle.store.proofs.LeLaws.{putAt-two}
 use borrow.Author.Needs.{needs}
 use Rattle.store.proofs.put32.Statement.{statement}
 use Rattle.store.proofs.put32.Tie as tie
-use Rattle.store.proofs.put32.Reads as reads
-use Rattle.store.proofs.put32.Lts as lts
-use Rattle.store.proofs.put16.Reads as put16-reads
 
--- src/lib.rt:52:17
 cast-put16 : tie.Need-cast-put16
 cast-put16 c = search needs
 
--- src/lib.rt:52:5
 put16-requires : tie.Need-put16-requires
 put16-requires c κs = search needs
 
--- src/lib.rt:53:14
 add-put16 : tie.Need-add-put16
 add-put16 c = search needs
 
--- src/lib.rt:53:21
 cast-put16-2 : tie.Need-cast-put16-2
 cast-put16-2 c = search needs
 
--- src/lib.rt:53:5
 put16-requires-2 : tie.Need-put16-requires-2
 put16-requires-2 c κs = search needs
 
--- src/lib.rt:48:1
 same-length : tie.Need-same-length
 same-length c = search needs
 
--- src/lib.rt:48:1
 returns : tie.Need-returns
 returns c = rw (putAt-two 2 2) (cc)
 

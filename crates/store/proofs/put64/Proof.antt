@@ -2,35 +2,25 @@ use Rattle.store.proofs.LeLaws.{putAt-two}
 use borrow.Author.Needs.{needs}
 use Rattle.store.proofs.put64.Statement.{statement}
 use Rattle.store.proofs.put64.Tie as tie
-use Rattle.store.proofs.put64.Reads as reads
-use Rattle.store.proofs.put64.Lts as lts
-use Rattle.store.proofs.put32.Reads as put32-reads
 
--- src/lib.rt:60:17
 cast-put32 : tie.Need-cast-put32
 cast-put32 c = search needs
 
--- src/lib.rt:60:5
 put32-requires : tie.Need-put32-requires
 put32-requires c κs = search needs
 
--- src/lib.rt:61:14
 add-put32 : tie.Need-add-put32
 add-put32 c = search needs
 
--- src/lib.rt:61:21
 cast-put32-2 : tie.Need-cast-put32-2
 cast-put32-2 c = search needs
 
--- src/lib.rt:61:5
 put32-requires-2 : tie.Need-put32-requires-2
 put32-requires-2 c κs = search needs
 
--- src/lib.rt:56:1
 same-length : tie.Need-same-length
 same-length c = search needs
 
--- src/lib.rt:56:1
 returns : tie.Need-returns
 returns c = rw (putAt-two 4 4) (cc)
 

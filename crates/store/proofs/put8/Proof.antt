@@ -5,18 +5,13 @@ use Rattle.store.specs.Le.{putAt}
 use borrow.Author.Needs.{needs}
 use Rattle.store.proofs.put8.Statement.{statement}
 use Rattle.store.proofs.put8.Tie as tie
-use Rattle.store.proofs.put8.Reads as reads
-use Rattle.store.proofs.put8.Lts as lts
 
--- src/lib.rt:48:5
 slice-write-s : tie.Need-slice-write-s
 slice-write-s c = search needs
 
--- src/lib.rt:44:1
 same-length : tie.Need-same-length
 same-length c = search needs
 
--- src/lib.rt:44:1
 returns : tie.Need-returns
 unfolding putAt
 returns c = let e : c .args .x % 256 ≡ c .args .x = omega arith in rw e

@@ -2,8 +2,6 @@ use Rattle.page.specs.Key.{flip}
 use borrow.Author.Needs.{needs}
 use Rattle.page.proofs.key.flip32.Statement.{statement}
 use Rattle.page.proofs.key.flip32.Tie as tie
-use Rattle.page.proofs.key.flip32.Reads as reads
-use Rattle.page.proofs.key.flip32.Lts as lts
 
 add-result : tie.Need-add-result
 add-result c = search needs

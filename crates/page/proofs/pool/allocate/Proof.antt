@@ -4,9 +4,6 @@ use Rattle.page.proofs.PoolLaws.{fresh-done}
 use borrow.Author.Needs.{needs}
 use Rattle.page.proofs.pool.allocate.Statement.{statement}
 use Rattle.page.proofs.pool.allocate.Tie as tie
-use Rattle.page.proofs.pool.allocate.Reads as reads
-use Rattle.page.proofs.pool.allocate.Lts as lts
-use Rattle.store.proofs.run.zero_fill.Reads as zero-fill-reads
 
 cast-a : tie.Need-cast-a
 cast-a c = search needs

@@ -4,8 +4,6 @@ use Rattle.page.proofs.PageLaws.{lent-page, length-page}
 use borrow.Author.Needs.{needs}
 use Rattle.page.proofs.pool.page_of.Statement.{statement}
 use Rattle.page.proofs.pool.page_of.Tie as tie
-use Rattle.page.proofs.pool.page_of.Reads as reads
-use Rattle.page.proofs.pool.page_of.Lts as lts
 
 mul-a : tie.Need-mul-a
 mul-a c = search needs

@@ -2,8 +2,6 @@ use Rattle.page.proofs.PoolLaws.{pool-ragged, pool-none, pool-large, po
 use borrow.Author.Needs.{needs}
 use Rattle.page.proofs.pool.pool_is_good.Statement.{statement}
 use Rattle.page.proofs.pool.pool_is_good.Tie as tie
-use Rattle.page.proofs.pool.pool_is_good.Reads as reads
-use Rattle.page.proofs.pool.pool_is_good.Lts as lts
 
 returns : tie.Need-returns
 returns c = pool-ragged _ _ (search needs)

@@ -3,11 +3,6 @@ use Rattle.row.proofs.Reading.{stamp-size, pointer-size, pointer-place,
 use borrow.Author.Needs.{needs}
 use Rattle.row.proofs.read.head_at.Statement.{statement}
 use Rattle.row.proofs.read.head_at.Tie as tie
-use Rattle.row.proofs.read.head_at.Reads as reads
-use Rattle.row.proofs.read.head_at.Lts as lts
-use Rattle.row.proofs.read.pointer_size.Reads as pointer-size-reads
-use Rattle.row.proofs.read.stamp_size.Reads as stamp-size-reads
-use Rattle.store.proofs.get8.Reads as get8-reads
 
 sub-if1 : tie.Need-sub-if1
 sub-if1 c = search needs

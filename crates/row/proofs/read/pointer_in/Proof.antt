@@ -5,11 +5,6 @@ use Rattle.row.proofs.Reading.{pointer-size, pointer-size-at, pointer-n
 use borrow.Author.Needs.{needs}
 use Rattle.row.proofs.read.pointer_in.Statement.{statement}
 use Rattle.row.proofs.read.pointer_in.Tie as tie
-use Rattle.row.proofs.read.pointer_in.Reads as reads
-use Rattle.row.proofs.read.pointer_in.Lts as lts
-use Rattle.store.proofs.get16.Reads as get16-reads
-use Rattle.store.proofs.get32.Reads as get32-reads
-use Rattle.store.proofs.get8.Reads as get8-reads
 
 get8-requires : tie.Need-get8-requires
 get8-requires c κs = omega (arith, pointer-size (leAt 1 (now (c .before .args .s)) (c .before .args .i)) .0)

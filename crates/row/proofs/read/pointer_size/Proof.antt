@@ -2,8 +2,6 @@ use Rattle.row.proofs.Reading.{pointer-size-none, pointer-size-at}
 use borrow.Author.Needs.{needs}
 use Rattle.row.proofs.read.pointer_size.Statement.{statement}
 use Rattle.row.proofs.read.pointer_size.Tie as tie
-use Rattle.row.proofs.read.pointer_size.Reads as reads
-use Rattle.row.proofs.read.pointer_size.Lts as lts
 
 returns : tie.Need-returns
 returns c = pointer-size-none _ (search needs)

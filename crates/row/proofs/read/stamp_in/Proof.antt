@@ -5,10 +5,6 @@ use Rattle.row.proofs.Reading.{stamp-size, stamp-size-by, stamp-none, s
 use borrow.Author.Needs.{needs}
 use Rattle.row.proofs.read.stamp_in.Statement.{statement}
 use Rattle.row.proofs.read.stamp_in.Tie as tie
-use Rattle.row.proofs.read.stamp_in.Reads as reads
-use Rattle.row.proofs.read.stamp_in.Lts as lts
-use Rattle.store.proofs.get64.Reads as get64-reads
-use Rattle.store.proofs.get8.Reads as get8-reads
 
 get8-requires : tie.Need-get8-requires
 get8-requires c κs = omega (arith, stamp-size (leAt 1 (now (c .before .args .s)) (c .before .args .i)) .0)

@@ -2,8 +2,6 @@ use Rattle.row.proofs.Reading.{stamp-size-none, stamp-size-by}
 use borrow.Author.Needs.{needs}
 use Rattle.row.proofs.read.stamp_size.Statement.{statement}
 use Rattle.row.proofs.read.stamp_size.Tie as tie
-use Rattle.row.proofs.read.stamp_size.Reads as reads
-use Rattle.row.proofs.read.stamp_size.Lts as lts
 
 returns : tie.Need-returns
 returns c = stamp-size-none _ (search needs)

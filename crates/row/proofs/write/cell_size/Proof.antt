@@ -3,10 +3,6 @@ use native.Mathlib.Omega.{arith}
 use borrow.Author.Needs.{needs}
 use Rattle.row.proofs.write.cell_size.Statement.{statement}
 use Rattle.row.proofs.write.cell_size.Tie as tie
-use Rattle.row.proofs.write.cell_size.Reads as reads
-use Rattle.row.proofs.write.cell_size.Lts as lts
-use Rattle.row.proofs.write.pointer_len.Reads as pointer-len-reads
-use Rattle.row.proofs.write.stamp_len.Reads as stamp-len-reads
 
 stamp-len-requires : tie.Need-stamp-len-requires
 stamp-len-requires c κs = search needs

@@ -2,12 +2,6 @@ use Rattle.row.proofs.Writing.{head-done}
 use borrow.Author.Needs.{needs}
 use Rattle.row.proofs.write.put_head.Statement.{statement}
 use Rattle.row.proofs.write.put_head.Tie as tie
-use Rattle.row.proofs.write.put_head.Reads as reads
-use Rattle.row.proofs.write.put_head.Lts as lts
-use Rattle.page.proofs.key.put_rank.Reads as put-rank-reads
-use Rattle.store.proofs.put32.Reads as put32-reads
-use Rattle.store.proofs.put64.Reads as put64-reads
-use Rattle.store.proofs.put8.Reads as put8-reads
 
 put-rank-requires : tie.Need-put-rank-requires
 put-rank-requires c κs = search needs

@@ -4,11 +4,6 @@ use native.Mathlib.Omega.{arith}
 use borrow.Author.Needs.{needs}
 use Rattle.row.proofs.write.put_pointer.Statement.{statement}
 use Rattle.row.proofs.write.put_pointer.Tie as tie
-use Rattle.row.proofs.write.put_pointer.Reads as reads
-use Rattle.row.proofs.write.put_pointer.Lts as lts
-use Rattle.store.proofs.put16.Reads as put16-reads
-use Rattle.store.proofs.put32.Reads as put32-reads
-use Rattle.store.proofs.put8.Reads as put8-reads
 
 enum-told : tie.Need-enum-told
 enum-told c = search needs

@@ -4,10 +4,6 @@ use native.Mathlib.Omega.{arith}
 use borrow.Author.Needs.{needs}
 use Rattle.row.proofs.write.put_stamp.Statement.{statement}
 use Rattle.row.proofs.write.put_stamp.Tie as tie
-use Rattle.row.proofs.write.put_stamp.Reads as reads
-use Rattle.row.proofs.write.put_stamp.Lts as lts
-use Rattle.store.proofs.put64.Reads as put64-reads
-use Rattle.store.proofs.put8.Reads as put8-reads
 
 enum-told : tie.Need-enum-told
 enum-told c = search needs

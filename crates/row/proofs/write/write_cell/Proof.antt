@@ -3,14 +3,6 @@ use native.Mathlib.Omega.{arith}
 use borrow.Author.Needs.{needs}
 use Rattle.row.proofs.write.write_cell.Statement.{statement}
 use Rattle.row.proofs.write.write_cell.Tie as tie
-use Rattle.row.proofs.write.write_cell.Reads as reads
-use Rattle.row.proofs.write.write_cell.Lts as lts
-use Rattle.row.proofs.write.pointer_len.Reads as pointer-len-reads
-use Rattle.row.proofs.write.put_head.Reads as put-head-reads
-use Rattle.row.proofs.write.put_pointer.Reads as put-pointer-reads
-use Rattle.row.proofs.write.put_stamp.Reads as put-stamp-reads
-use Rattle.row.proofs.write.stamp_len.Reads as stamp-len-reads
-use Rattle.store.proofs.run.copy_in.Reads as copy-in-reads
 
 stamp-len-requires : tie.Need-stamp-len-requires
 stamp-len-requires c κs = search needs

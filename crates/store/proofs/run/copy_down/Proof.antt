@@ -1,16 +1,14 @@
 -- `store::run::copy_down` meets its contract. Invariant: the stores that are left, from the list as it is now, give what all of them give.
 -- Assumes nothing.
-use mathlib.Core.Path.{_≡_, refl, sym, ap, _∙_}
+use mathlib.Core.Path.{_≡_, refl, _∙_}
 use Prim.Native.Nat.{_+_, _-_, _≤_}
 use native.Mathlib.Nat.{add-zero, sub-zero}
 use native.Mathlib.Omega.{arith}
 use lib.ListN.{length, length-set}
-use Rattle.store.specs.Part.{put, part, zeros}
+use Rattle.store.specs.Part.{put, part}
 use Rattle.store.proofs.PutLaws.{put-done, part-none, step-down}
 use Rattle.store.proofs.run.copy_down.Statement.{statement}
 use Rattle.store.proofs.run.copy_down.Tie as tie
-use Rattle.store.proofs.run.copy_down.Reads as reads
-use Rattle.store.proofs.run.copy_down.Lts as lts
 
 abbrev Inv-loop : tie.InvT-loop
 Inv-loop d₀ src dst n j₀ d j = (j ≤ n) × (length d ≡ length d₀) × (put (dst + j) (part (src + j) (n - j) d) d ≡ put dst (part src n d₀) d₀)

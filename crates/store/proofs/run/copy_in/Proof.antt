@@ -1,17 +1,14 @@
 -- `store::run::copy_in` meets its contract. Invariant: storing what is left of `new` gives what storing all of it gives.
 -- Assumes nothing.
-use mathlib.Core.Path.{_≡_, refl, sym, _∙_}
+use mathlib.Core.Path.{_≡_, refl, _∙_}
 use Prim.Native.Nat.{_+_, _-_, _≤_}
 use native.Mathlib.Nat.{add-zero}
 use native.Mathlib.Omega.{arith}
 use lib.ListN.{length, drop, length-set, drop-of-length-le}
-use denote.Ref.{now}
 use Rattle.store.specs.Part.{put}
 use Rattle.store.proofs.PutLaws.{put-done, step-in}
 use Rattle.store.proofs.run.copy_in.Statement.{statement}
 use Rattle.store.proofs.run.copy_in.Tie as tie
-use Rattle.store.proofs.run.copy_in.Reads as reads
-use Rattle.store.proofs.run.copy_in.Lts as lts
 
 abbrev Inv-loop : tie.InvT-loop
 Inv-loop d₀ at new j₀ d j = (j ≤ length new) × (length d ≡ length d₀) × (put (at + j) (drop j new) d ≡ put at new d₀)

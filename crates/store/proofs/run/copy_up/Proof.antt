@@ -1,16 +1,13 @@
 -- `store::run::copy_up` meets its contract. Invariant: the stores that are left, from the list as it is now, give what all of them give.
 -- Assumes nothing.
-use mathlib.Core.Path.{_≡_, refl, sym, ap, _∙_}
+use mathlib.Core.Path.{_≡_, refl, _∙_}
 use Prim.Native.Nat.{_+_, _-_, _≤_}
-use native.Mathlib.Nat.{add-zero, sub-zero}
 use native.Mathlib.Omega.{arith}
 use lib.ListN.{length, length-set}
-use Rattle.store.specs.Part.{put, part, zeros}
+use Rattle.store.specs.Part.{put, part}
 use Rattle.store.proofs.PutLaws.{put-done, part-none, step-up}
 use Rattle.store.proofs.run.copy_up.Statement.{statement}
 use Rattle.store.proofs.run.copy_up.Tie as tie
-use Rattle.store.proofs.run.copy_up.Reads as reads
-use Rattle.store.proofs.run.copy_up.Lts as lts
 
 abbrev Inv-loop : tie.InvT-loop
 Inv-loop d₀ src dst n m₀ d m = (m ≤ n) × (length d ≡ length d₀) × (put dst (part src m d) d ≡ put dst (part src n d₀) d₀)

@@ -4,11 +4,6 @@ use native.Mathlib.Omega.{arith}
 use Rattle.store.proofs.PutLaws.{splice-done}
 use Rattle.store.proofs.run.splice_body.Statement.{statement}
 use Rattle.store.proofs.run.splice_body.Tie as tie
-use Rattle.store.proofs.run.splice_body.Reads as reads
-use Rattle.store.proofs.run.splice_body.Lts as lts
-use Rattle.store.proofs.run.copy_in.Reads as copy-in-reads
-use Rattle.store.proofs.run.shift.Reads as shift-reads
-use Rattle.store.proofs.run.zero_fill.Reads as zero-fill-reads
 
 sub-t : tie.Need-sub-t
 sub-t c = search needs

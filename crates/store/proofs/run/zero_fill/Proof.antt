@@ -1,16 +1,13 @@
 -- `store::run::zero_fill` meets its contract. Invariant: the stores that are left give what all of them give.
 -- Assumes nothing.
-use mathlib.Core.Path.{_≡_, refl, sym, ap, _∙_}
-use Prim.Native.Nat.{_+_, _-_, _≤_}
-use native.Mathlib.Nat.{add-zero, sub-zero}
+use mathlib.Core.Path.{_≡_, refl, ap, _∙_}
+use Prim.Native.Nat.{_-_, _≤_}
 use native.Mathlib.Omega.{arith}
 use lib.ListN.{length, length-set}
-use Rattle.store.specs.Part.{put, part, zeros}
+use Rattle.store.specs.Part.{put, zeros}
 use Rattle.store.proofs.PutLaws.{put-done, step-zero}
 use Rattle.store.proofs.run.zero_fill.Statement.{statement}
 use Rattle.store.proofs.run.zero_fill.Tie as tie
-use Rattle.store.proofs.run.zero_fill.Reads as reads
-use Rattle.store.proofs.run.zero_fill.Lts as lts
 
 abbrev Inv-loop : tie.InvT-loop
 Inv-loop d₀ from to i₀ d i = (i ≤ to) × (length d ≡ length d₀) × (put i (zeros (to - i)) d ≡ put from (zeros (to - from)) d₀)
