@@ -186,6 +186,28 @@ accepted s at c e = by-head (leb (at + 8) (length s)) (leb (at + 8 + leAt 4 s (a
     by-head true false t q = absurd (past-bad s at (length s) q)
     by-head false d t q = absurd (let z : _≡_ {A = ℕ} 0 1 = cc in omega arith)
 
+-- where a cell that was read stands; this needs no bytes
+pub record CellPlaced (s : List ℕ) (at : ℕ) (c : Cell) : Type 0 where
+  pub here : c .at ≡ at
+  pub inside : c .next ≤ length s
+  pub past-head : at + 19 ≤ c .version .start
+  pub whole : c .version .start + c .version .len ≡ c .next
+  pub few : c .version .len ≤ 4051
+
+few-data : (s : List ℕ) (i m : ℕ) → dataFault s i m false ≡ 0 → m - dataPlace s i ≤ 4051
+unfolding dataFault
+few-data s i m e = ltb-false 4051 (m - dataPlace s i) (pick-zero (ltb 4051 (m - dataPlace s i)) 3 e .0)
+
+pub cell-placed : (s : List ℕ) (at : ℕ) (c : Cell) → cellAt s at ≡ CellRead.Got c → CellPlaced s at c
+unfolding cellIn
+cell-placed s at c e =
+    let a = accepted s at c e in
+    let m = at + 8 + leAt 4 s (at + 4) in
+    let p = places s (at + 8) in
+    let d = data-within s (at + 8) m (a .head-sound) in
+    subst (CellPlaced s at) (a .same)
+    (record { here = refl; inside = a .inside; past-head = omega arith; whole = omega arith; few = few-data s (at + 8) m (a .data-sound) })
+
 and-right : (a b : Bool) → (a && b) ≡ false → a ≡ true → b ≡ false
 and-right true b e t = e
 and-right false b e t = absurd (let z : _≡_ {A = ℕ} 0 1 = cc in omega arith)
@@ -316,7 +338,7 @@ module _ (s : List ℕ) (B : AreBytes s) (at n : ℕ) (st : Stamp) (pt : Pointer
 
 accepted-is : (s : List ℕ) (at : ℕ) → AreBytes s → at + 8 + leAt 4 s (at + 4) ≤ length s → headFault s (at + 8) (at + 8 + leAt 4 s (at + 4)) ≡ 0
     → dataFault s (at + 8) (at + 8 + leAt 4 s (at + 4)) false ≡ 0 → CellIs s at (cellIn s at (at + 8 + leAt 4 s (at + 4)))
-unfolding cellIn dataFault
+unfolding cellIn
 accepted-is s at B inside hf df =
     let i = at + 8 in
     let m = at + 8 + leAt 4 s (at + 4) in
@@ -328,7 +350,6 @@ accepted-is s at B inside hf df =
     let in-pointer = pointer-inside s i refl refl in
     let is-st = stamp-is s B (i + 9) (snd .stamp-low) (omega (arith, snd .data-in)) in
     let is-pt = pointer-is s B (pointerPlace s i) (snd .pointer-low) (omega (arith, snd .data-in)) in
-    let few = ltb-false 4051 (m - dataPlace s i) (pick-zero (ltb 4051 (m - dataPlace s i)) 3 df .0) in
     let n = m - dataPlace s i in
     let j-is : pointerPlace s i ≡ at + 8 + 9 + stampLen st = omega (arith, is-st .size) in
     let k-is : dataPlace s i ≡ at + 8 + 9 + stampLen st + pointerLen pt = omega (arith, is-pt .size) in
@@ -339,7 +360,7 @@ accepted-is s at B inside hf df =
     record {
       here = refl;
       inside = inside;
-      few = few;
+      few = few-data s i m df;
       place =
           ap₂ (λ (x y : ℕ). record { at = at; key = rankAt s at; version = record { creator = leAt 8 s (i + 1); stamp = st; pointer = pt; start = x; len = n }; next = y }) start-is next-is;
       key-fits = flip-less (leAt 4 s at);

@@ -1,0 +1,67 @@
+-- The cells of a leaf as a list, and its judgement (document 01, section 3: "cells are readable and non-decreasing by
+-- key, then creator"), which answers where the cells end, or the first fault in reading order (ticket 3's numbers).
+use mathlib.Core.Bool.{Bool, _&&_, _||_, false}
+use mathlib.Core.List.{List, [], _∷_}
+use Prim.Native.Nat.{ℕ, zero, suc}
+use lib.Dec.{leb, ltb, eqb}
+use Rattle.store.specs.Pick.{pick}
+use Rattle.page.specs.Header.{nodeType, cellCount}
+use Rattle.row.specs.Read.{cellAt}
+use Rattle.row.specs.declared.Cell.{Cell}
+use Rattle.row.specs.declared.Fault.{Fault}
+use Rattle.row.specs.declared.read.CellRead.{CellRead}
+use Rattle.leaf.specs.declared.Judged.{Judged}
+
+-- go on with what was read
+abbrev pub onCell : {A : Type 0} → (Cell → A) → (ℕ → A) → CellRead → A
+onCell good bad (CellRead.Got c) = good c
+onCell good bad (CellRead.Bad kind) = bad kind
+
+-- n cells from `at` on, up to the first that is not readable
+unfoldable pub cellsOf : (n at : ℕ) → List ℕ → List Cell
+cellsOf zero at s = []
+cellsOf (suc n) at s = onCell (λ c. c ∷ cellsOf n (c .next) s) (λ kind. []) (cellAt s at)
+
+-- the cells of a leaf page
+abbrev pub cells : List ℕ → List Cell
+cells pg = cellsOf (cellCount pg) 12 pg
+
+-- a fold over cells, the first one first
+unfoldable pub foldCells : {A : Type 0} → (A → Cell → A) → A → List Cell → A
+foldCells f a [] = a
+foldCells f a (c ∷ cs) = foldCells f (f a c) cs
+
+-- the key k with the creator c is not before k₀ with c₀
+unfoldable pub inOrder : (k₀ c₀ k c : ℕ) → Bool
+inOrder k₀ c₀ k c = ltb k₀ k || (eqb k₀ k && leb c₀ c)
+
+-- a fault of page p: of its structure, or of the cell at `at`
+abbrev pub structural : ℕ → Fault
+structural p = record { kind = 0; page = p; offset = 0 }
+
+abbrev pub cellFault : (p at kind : ℕ) → Fault
+cellFault p at kind = record { kind = kind; page = p; offset = at }
+
+-- n cells from `at` on, after one of key k and creator c
+unfoldable pub judgeCells : (p k c n at : ℕ) → List ℕ → Judged
+judgeCells p k c zero at s = Judged.Ok at
+judgeCells p k c (suc n) at s =
+    onCell
+    (λ x.
+    pick (inOrder k c (x .key) (x .version .creator))
+    (judgeCells p (x .key) (x .version .creator) n (x .next) s)
+    (Judged.Bad (structural p)))
+    (λ kind. Judged.Bad (cellFault p at kind))
+    (cellAt s at)
+
+-- page p with the bytes pg; no rank and no creator is below 0
+unfoldable pub judgeLeaf : ℕ → List ℕ → Judged
+judgeLeaf p pg = pick (eqb (nodeType pg) 1) (judgeCells p 0 0 (cellCount pg) 12 pg) (Judged.Bad (structural p))
+
+abbrev pub onJudged : {A : Type 0} → (ℕ → A) → (Fault → A) → Judged → A
+onJudged good bad (Judged.Ok e) = good e
+onJudged good bad (Judged.Bad f) = bad f
+
+-- some cell has a larger key
+unfoldable pub hasLarger : ℕ → List Cell → Bool
+hasLarger key cs = foldCells (λ b c. b || ltb key (c .key)) false cs

@@ -1,0 +1,5 @@
+-- What a reader of the contracts of `leaf` has to believe.
+pub mod Cells
+pub mod Rows
+pub mod Place
+pub mod Edit
