@@ -208,6 +208,13 @@ pub part-bytes : (w a : ℕ) (s : List ℕ) → AreBytes s → a + w ≤ length 
 unfolding part
 part-bytes w a s b h = sym (bytesLE-leAt w s a b h)
 
+-- the first n elements of a part
+pub part-first : (a n m : ℕ) (x t s : List ℕ) → length x ≡ n → part a (n + m) s ≡ x ++ t → part a n s ≡ x
+unfolding part
+part-first a n m x t s len e =
+    let k : n ≤ n + m = omega arith in
+    sym (take-take n (n + m) (drop a s) k) ∙ (ap (take n) e ∙ take-at x t n len)
+
 -- what stands after the first n elements of a part
 pub part-peel : (a n m : ℕ) (x t s : List ℕ) → length x ≡ n → part a (n + m) s ≡ x ++ t → part (a + n) m s ≡ t
 unfolding part
