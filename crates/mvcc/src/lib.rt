@@ -68,8 +68,28 @@ fn own_stamp(cur: Current, stamp: Stamp) -> bool
     }
 }
 
-fn hides(ids: &[u64], states: &[u8], active: &[u64], xmax: u64, cur: Current, stamp: Stamp) -> bool
-    requires { ⌜ Judged (now ids) (now states) × (rising (now active) ≡ true) ⌝ }
+// The state of tx, given that of the creator: where they are one transaction, it is not looked up again.
+fn state_beside(ids: &[u64], states: &[u8], creator: u64, state: u8, tx: u64) -> u8
+    requires { ⌜ Judged (now ids) (now states) × (state ≡ lookup (now ids) (now states) creator) ⌝ }
+    ensures { λ r. ⌜ r ≡ lookup (now (ids .entry)) (now (states .entry)) tx ⌝ }
+{
+    if tx == creator {
+        return state;
+    }
+    lists::status_of(ids, states, tx)
+}
+
+fn hides(
+    ids: &[u64],
+    states: &[u8],
+    active: &[u64],
+    xmax: u64,
+    cur: Current,
+    creator: u64,
+    state: u8,
+    stamp: Stamp,
+) -> bool
+    requires { ⌜ Judged (now ids) (now states) × (rising (now active) ≡ true) × (state ≡ lookup (now ids) (now states) creator) ⌝ }
     ensures { λ r. ⌜ r ≡ ofDeleter (hiding (lookup (now (ids .entry)) (now (states .entry))) (now (active .entry)) xmax cur) stamp ⌝ }
 {
     match stamp {
@@ -77,7 +97,8 @@ fn hides(ids: &[u64], states: &[u8], active: &[u64], xmax: u64, cur: Current, st
             if is_current(cur, d) {
                 return true;
             }
-            finished_before(ids, states, active, xmax, d)
+            let other = state_beside(ids, states, creator, state, d);
+            finished_with(other, active, xmax, d)
         }
         Stamp::Absent => false,
     }
@@ -104,7 +125,7 @@ pub fn is_visible(
         return !own;
     }
     if finished_with(state, active, xmax, creator) {
-        let hidden = hides(ids, states, active, xmax, cur, stamp);
+        let hidden = hides(ids, states, active, xmax, cur, creator, state, stamp);
         return !hidden;
     }
     false
@@ -131,7 +152,14 @@ fn intrudes(active: &[u64], xmax: u64, cur: Current, tx: u64) -> bool
 }
 
 // One version of the key, against the creator number that the caller has seen.
-pub fn version_conflicts(active: &[u64], xmax: u64, cur: Current, seen: u64, creator: u64, stamp: Stamp) -> bool
+pub fn version_conflicts(
+    active: &[u64],
+    xmax: u64,
+    cur: Current,
+    seen: u64,
+    creator: u64,
+    stamp: Stamp,
+) -> bool
     requires { ⌜ rising (now active) ≡ true ⌝ }
     ensures { λ r. ⌜ r ≡ conflicting (now (active .entry)) xmax cur seen creator stamp ⌝ }
 {

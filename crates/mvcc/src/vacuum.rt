@@ -1,7 +1,7 @@
 // What vacuum does to one version (document 01, section 5; vacuum.rs).
 ghost use mathlib.Core.Path.{_≡_};
 ghost use Rattle.mvcc.specs.Lists.{lookup, Judged};
-ghost use Rattle.mvcc.specs.Vacuum.{abortedCreator, removableDeleter, abortedDeleter, fate};
+ghost use Rattle.mvcc.specs.Vacuum.{stampedFate, fate};
 use crate::lists::status_of;
 use row::Stamp;
 
@@ -12,50 +12,31 @@ pub enum Fate {
     Same,
 }
 
-fn deleted_version_is_removable(ids: &[u64], states: &[u8], bound: u64, stamp: Stamp) -> bool
-    requires { ⌜ Judged (now ids) (now states) ⌝ }
-    ensures { λ r. ⌜ r ≡ removableDeleter (lookup (now (ids .entry)) (now (states .entry))) bound stamp ⌝ }
+// Of a version by a creator that is not aborted, with the deleter's state looked up once.
+fn stamped_fate(bound: u64, d: u64, state: u8) -> Fate
+    ensures { λ r. ⌜ r ≡ stampedFate bound d state ⌝ }
 {
-    match stamp {
-        Stamp::By(d) => {
-            if bound <= d {
-                return false;
-            }
-            status_of(ids, states, d) == 2
-        }
-        Stamp::Absent => false,
+    if state == 3 {
+        return Fate::Cleared;
     }
-}
-
-fn aborted_creator_is_removable(ids: &[u64], states: &[u8], creator: u64) -> bool
-    requires { ⌜ Judged (now ids) (now states) ⌝ }
-    ensures { λ r. ⌜ r ≡ abortedCreator (lookup (now (ids .entry)) (now (states .entry))) creator ⌝ }
-{
-    status_of(ids, states, creator) == 3
-}
-
-fn aborted_deleter_is_clearable(ids: &[u64], states: &[u8], stamp: Stamp) -> bool
-    requires { ⌜ Judged (now ids) (now states) ⌝ }
-    ensures { λ r. ⌜ r ≡ abortedDeleter (lookup (now (ids .entry)) (now (states .entry))) stamp ⌝ }
-{
-    match stamp {
-        Stamp::By(d) => status_of(ids, states, d) == 3,
-        Stamp::Absent => false,
+    if state != 2 {
+        return Fate::Same;
     }
+    if d < bound {
+        return Fate::Dropped;
+    }
+    Fate::Same
 }
 
 pub fn fate_of(ids: &[u64], states: &[u8], bound: u64, creator: u64, stamp: Stamp) -> Fate
     requires { ⌜ Judged (now ids) (now states) ⌝ }
     ensures { λ r. ⌜ r ≡ fate (lookup (now (ids .entry)) (now (states .entry))) bound creator stamp ⌝ }
 {
-    if aborted_creator_is_removable(ids, states, creator) {
+    if status_of(ids, states, creator) == 3 {
         return Fate::Dropped;
     }
-    if deleted_version_is_removable(ids, states, bound, stamp) {
-        return Fate::Dropped;
+    match stamp {
+        Stamp::By(d) => stamped_fate(bound, d, status_of(ids, states, d)),
+        Stamp::Absent => Fate::Same,
     }
-    if aborted_deleter_is_clearable(ids, states, stamp) {
-        return Fate::Cleared;
-    }
-    Fate::Same
 }

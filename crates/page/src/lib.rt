@@ -10,8 +10,11 @@ ghost use Rattle.page.specs.Header.{nodeType, isRoot, parentOf, cellCoun
 ghost use Rattle.page.specs.Header.{withNodeType, withIsRoot, withParent, withCount, withNextLeaf};
 
 pub const PAGE_SIZE: usize = 4096;
+
 pub const HEADER_SIZE: usize = 12;
+
 pub const NODE_INTERNAL: u8 = 0;
+
 pub const NODE_LEAF: u8 = 1;
 
 pub fn get_node_type(pg: &[u8]) -> u8

@@ -3,6 +3,7 @@
 
 // The first byte of every payload (MVCC_ROW_PAYLOAD_FORMAT_VERSION).
 pub const FORMAT_VERSION: u8 = 129;
+
 pub const MAX_DATA: usize = 4051;
 
 pub enum Stamp {

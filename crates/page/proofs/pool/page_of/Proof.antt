@@ -23,7 +23,7 @@ part-result-end : tie.Need-part-result-end
 part-result-end c = search needs
 
 returns : tie.Need-returns
-returns c = 
+returns c =
     let k = c .before in
     let g = k .args in
     let e = lent-page (g .p) (g .pool .now) in
