@@ -108,9 +108,14 @@ module _ (active : List ℕ) (xmax : ℕ) (cur : Current) (seen c : ℕ) (stamp 
   unfolding conflicting
   conflict-other n = rw (ne-eqb c seen n)
 
-  pub conflict-seen : c ≡ seen → ofDeleter (intruding active xmax cur) stamp ≡ conflicting active xmax cur seen c stamp
-  unfolding conflicting
-  conflict-seen e = rw (eq-eqb c seen e)
+  module _ (e : c ≡ seen) where
+    pub conflict-live : stamp ≡ Stamp.Absent → false ≡ conflicting active xmax cur seen c stamp
+    unfolding conflicting ofDeleter
+    conflict-live q = rw (eq-eqb c seen e, q)
+
+    pub conflict-stamped : (d : ℕ) → stamp ≡ Stamp.By d → {r : Bool} → r ≡ intruding active xmax cur d → r ≡ conflicting active xmax cur seen c stamp
+    unfolding conflicting ofDeleter
+    conflict-stamped d q i = rw (eq-eqb c seen e, q) i
 
 -- ---- vacuum
 

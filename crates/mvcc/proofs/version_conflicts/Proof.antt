@@ -2,7 +2,7 @@
 -- Assumes nothing.
 use mathlib.Core.Path.{_∙_}
 use borrow.Author.Needs.{needs}
-use Rattle.mvcc.proofs.RuleLaws.{of-by, of-absent, conflict-other, conflict-seen}
+use Rattle.mvcc.proofs.RuleLaws.{conflict-other, conflict-live, conflict-stamped}
 use Rattle.mvcc.proofs.version_conflicts.Statement.{statement}
 use Rattle.mvcc.proofs.version_conflicts.Tie as tie
 
@@ -22,10 +22,10 @@ enum-told : tie.Need-enum-told
 enum-told c = search needs
 
 returns-2 : tie.Need-returns-2
-returns-2 c = c .intrudes2 .ensures ∙ of-by _ _ _ (c .before .before .stamp .given .1) ∙ conflict-seen _ _ _ _ _ _ (search needs)
+returns-2 c = conflict-stamped _ _ _ _ _ _ (search needs) _ (c .before .before .stamp .given .1) (search needs)
 
 returns-3 : tie.Need-returns-3
-returns-3 c = of-absent _ _ (search needs) ∙ conflict-seen _ _ _ _ _ _ (search needs)
+returns-3 c = conflict-live _ _ _ _ _ _ (search needs) (search needs)
 
 pub version-conflicts-spec : {M : Type 1} → statement M
 version-conflicts-spec =
