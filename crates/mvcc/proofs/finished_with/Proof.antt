@@ -1,0 +1,32 @@
+-- `mvcc::finished_with` meets its contract, test by test.
+-- Assumes nothing.
+use borrow.Author.Needs.{needs}
+use Rattle.mvcc.proofs.RuleLaws.{finished-zero, unfinished-late, unfinished-running, unfinished-aborted, unfinished-active, finished-else}
+use Rattle.mvcc.proofs.finished_with.Statement.{statement}
+use Rattle.mvcc.proofs.finished_with.Tie as tie
+
+returns : tie.Need-returns
+returns c = finished-zero _ _ _ _ (search needs)
+
+returns-2 : tie.Need-returns-2
+returns-2 c = unfinished-late _ _ _ _ (search needs) (search needs)
+
+returns-3 : tie.Need-returns-3
+returns-3 c = unfinished-running _ _ _ _ (search needs) (search needs)
+
+returns-4 : tie.Need-returns-4
+returns-4 c = unfinished-aborted _ _ _ _ (search needs) (search needs)
+
+in-active-requires : tie.Need-in-active-requires
+in-active-requires c κs = search needs
+
+returns-5 : tie.Need-returns-5
+returns-5 c = unfinished-active _ _ _ _ (search needs) (cc)
+
+returns-6 : tie.Need-returns-6
+returns-6 c = finished-else _ _ _ _ (search needs) (search needs) (search needs) (search needs) (cc)
+
+pub finished-with-spec : {M : Type 1} → statement M
+finished-with-spec =
+    tie.close
+    (tie.spec returns returns-2 returns-3 returns-4 in-active-requires returns-5 returns-6)

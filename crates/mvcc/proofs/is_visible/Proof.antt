@@ -1,0 +1,50 @@
+-- `mvcc::is_visible` meets its contract, test by test.
+-- Assumes nothing.
+use mathlib.Core.Path.{ap, _∙_}
+use mathlib.Core.Bool.{not}
+use native.Mathlib.Omega.{arith}
+use borrow.Author.Needs.{needs}
+use Rattle.mvcc.proofs.RuleLaws.{unseen-aborted, seen-own, seen-else, unseen-unfinished}
+use Rattle.mvcc.proofs.is_visible.Statement.{statement}
+use Rattle.mvcc.proofs.is_visible.Tie as tie
+
+status-of-requires : tie.Need-status-of-requires
+status-of-requires c κs = search needs
+
+returns : tie.Need-returns
+returns c = unseen-aborted _ _ _ _ _ _ (cc)
+
+is-current-requires : tie.Need-is-current-requires
+is-current-requires c κs = search needs
+
+own-stamp-requires : tie.Need-own-stamp-requires
+own-stamp-requires c κs = search needs
+
+returns-2 : tie.Need-returns-2
+returns-2 c = ap not (c .own-stamp .ensures) ∙ seen-own _ _ _ _ _ _ (λ e. omega arith) (cc)
+
+finished-with-requires : tie.Need-finished-with-requires
+finished-with-requires c κs = search needs
+
+hides-requires : tie.Need-hides-requires
+hides-requires c κs = search needs
+
+returns-3 : tie.Need-returns-3
+returns-3 c = ap not (c .hides .ensures) ∙ seen-else _ _ _ _ _ _ (λ e. omega arith) (cc) (cc)
+
+returns-4 : tie.Need-returns-4
+returns-4 c = unseen-unfinished _ _ _ _ _ _ (λ e. omega arith) (cc) (cc)
+
+pub is-visible-spec : {M : Type 1} → statement M
+is-visible-spec =
+    tie.close
+    (tie.spec
+    status-of-requires
+    returns
+    is-current-requires
+    own-stamp-requires
+    returns-2
+    finished-with-requires
+    hides-requires
+    returns-3
+    returns-4)

@@ -1,0 +1,5 @@
+-- What a reader of the contracts of `mvcc` has to believe.
+pub mod Lists
+pub mod Rules
+pub mod Vacuum
+pub mod Facts

@@ -1,0 +1,190 @@
+// Who sees what (document 01, section 4; mvcc.rs): snapshots and status lists are judged once per call and then
+// searched by halves; one version is tested at a time. Module vacuum has section 5's removal rules.
+pub mod lists;
+pub mod vacuum;
+
+ghost use mathlib.Core.Path.{_≡_};
+ghost use mathlib.Core.Bool.{true};
+ghost use Rattle.mvcc.specs.Lists.{rising, lookup, Judged};
+ghost use Rattle.mvcc.specs.Rules.{isCurrent, ofDeleter, finishedWith, finishedBefore, hiding, visible};
+ghost use Rattle.mvcc.specs.Rules.{changedAfter, intruding, conflicting, claimConflicting};
+use row::Stamp;
+
+// Nobody and Tx(0) are different inputs.
+pub enum Current {
+    Nobody,
+    Tx(u64),
+}
+
+// The snapshot of calls that are given none: this bound, and an empty active list.
+pub const PLAIN_XMAX: u64 = 18446744073709551615;
+
+fn is_current(cur: Current, tx: u64) -> bool
+    ensures { λ r. ⌜ r ≡ isCurrent cur tx ⌝ }
+{
+    match cur {
+        Current::Tx(c) => tx == c,
+        Current::Nobody => false,
+    }
+}
+
+// With the state already looked up, so that a creator's is looked up once.
+fn finished_with(state: u8, active: &[u64], xmax: u64, tx: u64) -> bool
+    requires { ⌜ rising (now active) ≡ true ⌝ }
+    ensures { λ r. ⌜ r ≡ finishedWith state (now (active .entry)) xmax tx ⌝ }
+{
+    if tx == 0 {
+        return true;
+    }
+    if xmax <= tx {
+        return false;
+    }
+    if state == 1 {
+        return false;
+    }
+    if state == 3 {
+        return false;
+    }
+    if lists::in_active(active, tx) {
+        return false;
+    }
+    true
+}
+
+pub fn finished_before(ids: &[u64], states: &[u8], active: &[u64], xmax: u64, tx: u64) -> bool
+    requires { ⌜ Judged (now ids) (now states) × (rising (now active) ≡ true) ⌝ }
+    ensures { λ r. ⌜ r ≡ finishedBefore (lookup (now (ids .entry)) (now (states .entry))) (now (active .entry)) xmax tx ⌝ }
+{
+    let state = lists::status_of(ids, states, tx);
+    finished_with(state, active, xmax, tx)
+}
+
+fn own_stamp(cur: Current, stamp: Stamp) -> bool
+    ensures { λ r. ⌜ r ≡ ofDeleter (isCurrent cur) stamp ⌝ }
+{
+    match stamp {
+        Stamp::By(d) => is_current(cur, d),
+        Stamp::Absent => false,
+    }
+}
+
+// The state of tx, given that of the creator: where they are one transaction, it is not looked up again.
+fn state_beside(ids: &[u64], states: &[u8], creator: u64, state: u8, tx: u64) -> u8
+    requires { ⌜ Judged (now ids) (now states) × (state ≡ lookup (now ids) (now states) creator) ⌝ }
+    ensures { λ r. ⌜ r ≡ lookup (now (ids .entry)) (now (states .entry)) tx ⌝ }
+{
+    if tx == creator {
+        return state;
+    }
+    lists::status_of(ids, states, tx)
+}
+
+fn hides(
+    ids: &[u64],
+    states: &[u8],
+    active: &[u64],
+    xmax: u64,
+    cur: Current,
+    creator: u64,
+    state: u8,
+    stamp: Stamp,
+) -> bool
+    requires { ⌜ Judged (now ids) (now states) × (rising (now active) ≡ true) × (state ≡ lookup (now ids) (now states) creator) ⌝ }
+    ensures { λ r. ⌜ r ≡ ofDeleter (hiding (lookup (now (ids .entry)) (now (states .entry))) (now (active .entry)) xmax cur) stamp ⌝ }
+{
+    match stamp {
+        Stamp::By(d) => {
+            if is_current(cur, d) {
+                return true;
+            }
+            let other = state_beside(ids, states, creator, state, d);
+            finished_with(other, active, xmax, d)
+        }
+        Stamp::Absent => false,
+    }
+}
+
+pub fn is_visible(
+    ids: &[u64],
+    states: &[u8],
+    active: &[u64],
+    xmax: u64,
+    cur: Current,
+    creator: u64,
+    stamp: Stamp,
+) -> bool
+    requires { ⌜ Judged (now ids) (now states) × (rising (now active) ≡ true) ⌝ }
+    ensures { λ r. ⌜ r ≡ visible (lookup (now (ids .entry)) (now (states .entry))) (now (active .entry)) xmax cur creator stamp ⌝ }
+{
+    let state = lists::status_of(ids, states, creator);
+    if state == 3 {
+        return false;
+    }
+    if is_current(cur, creator) {
+        let own = own_stamp(cur, stamp);
+        return !own;
+    }
+    if finished_with(state, active, xmax, creator) {
+        let hidden = hides(ids, states, active, xmax, cur, creator, state, stamp);
+        return !hidden;
+    }
+    false
+}
+
+pub fn changed_after_snapshot(active: &[u64], xmax: u64, tx: u64) -> bool
+    requires { ⌜ rising (now active) ≡ true ⌝ }
+    ensures { λ r. ⌜ r ≡ changedAfter (now (active .entry)) xmax tx ⌝ }
+{
+    if xmax <= tx {
+        return true;
+    }
+    lists::in_active(active, tx)
+}
+
+fn intrudes(active: &[u64], xmax: u64, cur: Current, tx: u64) -> bool
+    requires { ⌜ rising (now active) ≡ true ⌝ }
+    ensures { λ r. ⌜ r ≡ intruding (now (active .entry)) xmax cur tx ⌝ }
+{
+    if is_current(cur, tx) {
+        return false;
+    }
+    changed_after_snapshot(active, xmax, tx)
+}
+
+// One version of the key, against the creator number that the caller has seen.
+pub fn version_conflicts(
+    active: &[u64],
+    xmax: u64,
+    cur: Current,
+    seen: u64,
+    creator: u64,
+    stamp: Stamp,
+) -> bool
+    requires { ⌜ rising (now active) ≡ true ⌝ }
+    ensures { λ r. ⌜ r ≡ conflicting (now (active .entry)) xmax cur seen creator stamp ⌝ }
+{
+    if creator != seen {
+        return intrudes(active, xmax, cur, creator);
+    }
+    match stamp {
+        Stamp::By(d) => intrudes(active, xmax, cur, d),
+        Stamp::Absent => false,
+    }
+}
+
+// Claim's own test, which may come to ask the status list.
+pub fn claim_conflicts(
+    ids: &[u64],
+    states: &[u8],
+    active: &[u64],
+    xmax: u64,
+    cur: Current,
+    seen: u64,
+    creator: u64,
+    stamp: Stamp,
+) -> bool
+    requires { ⌜ Judged (now ids) (now states) × (rising (now active) ≡ true) ⌝ }
+    ensures { λ r. ⌜ r ≡ claimConflicting (lookup (now (ids .entry)) (now (states .entry))) (now (active .entry)) xmax cur seen creator stamp ⌝ }
+{
+    version_conflicts(active, xmax, cur, seen, creator, stamp)
+}

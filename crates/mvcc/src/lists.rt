@@ -1,0 +1,107 @@
+// Active lists and status lists (document 01, sections 4 and 6): judged in one pass each, searched by halves.
+// A status list is two slices, of transactions and of their states.
+ghost use mathlib.Core.Path.{_≡_};
+ghost use mathlib.Core.Bool.{true};
+ghost use Rattle.mvcc.specs.Lists.{rising, areStates, goodActive, goodStatuses, mem, lookup, below, Judged};
+
+fn rises(a: &[u64]) -> bool
+    ensures { λ r. ⌜ r ≡ rising (now (a .entry)) ⌝ }
+{
+    if a.len() == 0 {
+        return true;
+    }
+    let mut prev = a[0];
+    let mut i = 1;
+    while i < a.len() {
+        let y = a[i];
+        if y <= prev {
+            return false;
+        }
+        prev = y;
+        i += 1;
+    }
+    true
+}
+
+// A flag and no way out of the loop, so that the compiler takes many states at a time.
+fn are_states(s: &[u8]) -> bool
+    ensures { λ r. ⌜ r ≡ areStates (now (s .entry)) ⌝ }
+{
+    let mut ok = true;
+    let mut i = 0;
+    while i < s.len() {
+        let y = s[i];
+        let low = 1 <= y;
+        let high = y <= 3;
+        ok = ok & (low & high);
+        i += 1;
+    }
+    ok
+}
+
+pub fn good_active(active: &[u64]) -> bool
+    ensures { λ r. ⌜ r ≡ goodActive (now (active .entry)) ⌝ }
+{
+    if 4096 < active.len() {
+        return false;
+    }
+    rises(active)
+}
+
+pub fn good_statuses(ids: &[u64], states: &[u8]) -> bool
+    ensures { λ r. ⌜ r ≡ goodStatuses (now (ids .entry)) (now (states .entry)) ⌝ }
+{
+    if 65536 < ids.len() {
+        return false;
+    }
+    if ids.len() != states.len() {
+        return false;
+    }
+    if rises(ids) {
+        return are_states(states);
+    }
+    false
+}
+
+// How many stand below x.
+fn place(a: &[u64], x: u64) -> usize
+    requires { ⌜ rising (now a) ≡ true ⌝ }
+    ensures { λ r. ⌜ r ≡ below x (now (a .entry)) ⌝ }
+{
+    let mut lo = 0;
+    let mut hi = a.len();
+    while lo < hi {
+        let mid = lo + (hi - lo) / 2;
+        if a[mid] < x {
+            lo = mid + 1;
+        } else {
+            hi = mid;
+        }
+    }
+    lo
+}
+
+pub fn in_active(active: &[u64], tx: u64) -> bool
+    requires { ⌜ rising (now active) ≡ true ⌝ }
+    ensures { λ r. ⌜ r ≡ mem tx (now (active .entry)) ⌝ }
+{
+    let i = place(active, tx);
+    if i < active.len() {
+        return active[i] == tx;
+    }
+    false
+}
+
+pub fn status_of(ids: &[u64], states: &[u8], tx: u64) -> u8
+    requires { ⌜ Judged (now ids) (now states) ⌝ }
+    ensures { λ r. ⌜ r ≡ lookup (now (ids .entry)) (now (states .entry)) tx ⌝ }
+{
+    let i = place(ids, tx);
+    if i < ids.len() {
+        if ids[i] == tx {
+            return states[i];
+        }
+        return 0;
+    }
+    0
+}
