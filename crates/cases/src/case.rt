@@ -43,7 +43,7 @@ fn reads_back(s: &[u8], h: Head, body: &[u8], size: usize) -> bool
         return false;
     };
     let start = size - body.len();
-    if !same::same_cell(c, fields::cell_of(h, start, body.len(), size)) {
+    if !same::same_cell(c, fields::cell_of(h, 0, start, body.len(), size)) {
         return false;
     }
     check::same(&s[start..size], body)
@@ -125,7 +125,7 @@ fn read_case(s: &[u8]) -> Outcome {
     let NumberText::Got(at) = text::field_number(s, 3, u64::MAX) else {
         return Outcome::Unreadable;
     };
-    let AnswerText::Got(recorded) = fields::answer(text::rest(s, 4)) else {
+    let AnswerText::Got(recorded) = fields::answer(text::rest(s, 4), at as usize) else {
         return Outcome::Unreadable;
     };
     let len = n as usize;

@@ -93,10 +93,11 @@ pub fn head_of(s: &[u8]) -> HeadText {
     })
 }
 
-pub fn cell_of(h: Head, start: usize, len: usize, next: usize) -> Cell {
+pub fn cell_of(h: Head, at: usize, start: usize, len: usize, next: usize) -> Cell {
     let stamp = h.stamp;
     let pointer = h.pointer;
     Cell {
+        at,
         key: h.key,
         version: Version {
             creator: h.creator,
@@ -109,8 +110,8 @@ pub fn cell_of(h: Head, start: usize, len: usize, next: usize) -> Cell {
     }
 }
 
-// KEY CREATOR STAMP POINTER START LEN NEXT
-fn cell(s: &[u8]) -> AnswerText {
+// KEY CREATOR STAMP POINTER START LEN NEXT of the cell at that offset
+fn cell(s: &[u8], at: usize) -> AnswerText {
     let HeadText::Got(h) = head_of(s) else {
         return AnswerText::Bad;
     };
@@ -123,15 +124,15 @@ fn cell(s: &[u8]) -> AnswerText {
     let NumberText::Got(next) = text::number(text::rest(s, 6), u64::MAX) else {
         return AnswerText::Bad;
     };
-    let c = cell_of(h, start as usize, len as usize, next as usize);
+    let c = cell_of(h, at, start as usize, len as usize, next as usize);
     AnswerText::Got(CellRead::Got(c))
 }
 
 // cell and its fields, or bad KIND
-pub fn answer(s: &[u8]) -> AnswerText {
+pub fn answer(s: &[u8], at: usize) -> AnswerText {
     let word = text::field(s, 0);
     if check::same(word, b"cell") {
-        return cell(text::rest(s, 1));
+        return cell(text::rest(s, 1), at);
     }
     if !check::same(word, b"bad") {
         return AnswerText::Bad;

@@ -30,7 +30,7 @@ fn same_pointer(a: Pointer, b: Pointer) -> bool {
 }
 
 pub fn same_cell(a: Cell, b: Cell) -> bool {
-    if a.key != b.key || a.next != b.next {
+    if a.at != b.at || a.key != b.key || a.next != b.next {
         return false;
     }
     let v = a.version;

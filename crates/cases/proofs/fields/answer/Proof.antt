@@ -54,8 +54,8 @@ enum-told c = search needs
 returns-3 : tie.Need-returns-3
 returns-3 c = search needs
 
-cast-t16 : tie.Need-cast-t16
-cast-t16 c = omega (arith, within-got _ _ _ (c .before .before .before .number .ensures) (c .before .kind .given .1))
+cast-t17 : tie.Need-cast-t17
+cast-t17 c = omega (arith, within-got _ _ _ (c .before .before .before .number .ensures) (c .before .kind .given .1))
 
 returns-4 : tie.Need-returns-4
 returns-4 c = search needs
@@ -78,5 +78,5 @@ answer-spec =
     enum-known-kind
     enum-told
     returns-3
-    cast-t16
+    cast-t17
     returns-4)
