@@ -87,7 +87,7 @@ module _ (good : Bool) (k n m : ℕ) where
 module _ (es : List Entry) (ids states : List ℕ) (c : ℕ) (is : c ≡ unpackCode es (length ids) (length states)) where
   pub unpacked-refused : (c ≡ 0 → ⊥) → Unpacked es ids states c ids states
   unfolding written
-  unpacked-refused n = record { code = is; transactions = rw (← is, ne-eqb c 0 n); their-states = rw (← is, ne-eqb c 0 n) }
+  unpacked-refused n = record { code = is; ids-after = rw (← is, ne-eqb c 0 n); states-after = rw (← is, ne-eqb c 0 n) }
 
   module _ (done : c ≡ 0) where
     pub unpacked-fits : (length es ≤ length ids) × (length es ≤ length states)
@@ -96,7 +96,7 @@ module _ (es : List Entry) (ids states : List ℕ) (c : ℕ) (is : c ≡ unpackC
 
     pub unpacked-done : (zs ws : List ℕ) → zs ≡ put 0 (txs es) ids → ws ≡ put 0 (sts es) states → Unpacked es ids states 0 zs ws
     unfolding written
-    unpacked-done zs ws p q = record { code = sym done ∙ is; transactions = rw (← is, eq-eqb c 0 done) p; their-states = rw (← is, eq-eqb c 0 done) q }
+    unpacked-done zs ws p q = record { code = sym done ∙ is; ids-after = rw (← is, eq-eqb c 0 done) p; states-after = rw (← is, eq-eqb c 0 done) q }
 
 -- the code that room_code answers is unpack's, once the list is judged
 pub unpack-code : (es : List Entry) (n m : ℕ) (good : Bool) (c : ℕ) → good ≡ goodStatuses (txs es) (sts es) → c ≡ roomCode good (length es) n m → c ≡ unpackCode es n m

@@ -41,5 +41,5 @@ written code x s = pick (eqb code 0) (put 0 x s) s
 -- what unpack answers, and what the two slices hold afterwards
 pub record Unpacked (es : List Entry) (ids states : List ℕ) (r : ℕ) (ids′ states′ : List ℕ) : Type 0 where
   pub code : r ≡ unpackCode es (length ids) (length states)
-  pub transactions : ids′ ≡ written (unpackCode es (length ids) (length states)) (txs es) ids
-  pub their-states : states′ ≡ written (unpackCode es (length ids) (length states)) (sts es) states
+  pub ids-after : ids′ ≡ written (unpackCode es (length ids) (length states)) (txs es) ids
+  pub states-after : states′ ≡ written (unpackCode es (length ids) (length states)) (sts es) states

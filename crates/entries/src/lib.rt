@@ -51,7 +51,7 @@ fn settled(e: Entry, tx: u64) -> u8
 }
 
 // The state of tx in a list that rises: 0 where it is absent.
-pub fn state_of(es: &[Entry], tx: u64) -> u8
+fn state_of(es: &[Entry], tx: u64) -> u8
     requires { ⌜ rising (txs (now es)) ≡ true ⌝ }
     ensures { λ r. ⌜ r ≡ lookup (txs (now (es .entry))) (sts (now (es .entry))) tx ⌝ }
 {
@@ -63,7 +63,7 @@ pub fn state_of(es: &[Entry], tx: u64) -> u8
 }
 
 // A flag and no way out of the loop: one pass judges order and states.
-pub fn entries_are_good(es: &[Entry]) -> bool
+fn entries_are_good(es: &[Entry]) -> bool
     ensures { λ r. ⌜ r ≡ goodStatuses (txs (now (es .entry))) (sts (now (es .entry))) ⌝ }
 {
     if 65536 < es.len() {
