@@ -1,5 +1,6 @@
 -- What a reader of the contracts of `leaf` has to believe.
 pub mod Cells
 pub mod Rows
+pub mod Find
 pub mod Place
 pub mod Edit

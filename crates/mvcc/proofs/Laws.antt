@@ -190,13 +190,15 @@ pub statuses-unlike : (is ss : List ℕ) → length is ≤ 65536 → (length is 
 unfolding goodStatuses
 statuses-unlike is ss h n = rw (le-leb, ne-eqb)
 
-pub statuses-fallen : (is ss : List ℕ) → length is ≤ 65536 → length is ≡ length ss → rising is ≡ false → false ≡ goodStatuses is ss
+pub statuses-both : (is ss : List ℕ) → length is ≤ 65536 → length is ≡ length ss → goodStatuses is ss ≡ (rising is && areStates ss)
 unfolding goodStatuses
-statuses-fallen is ss h e r = rw (le-leb, eq-eqb, r)
+statuses-both is ss h e = rw (le-leb, eq-eqb (length is) (length ss) e)
+
+pub statuses-fallen : (is ss : List ℕ) → length is ≤ 65536 → length is ≡ length ss → rising is ≡ false → false ≡ goodStatuses is ss
+statuses-fallen is ss h e r = rw (statuses-both, r)
 
 pub statuses-rest : (is ss : List ℕ) → length is ≤ 65536 → length is ≡ length ss → rising is ≡ true → areStates ss ≡ goodStatuses is ss
-unfolding goodStatuses
-statuses-rest is ss h e r = rw (le-leb, eq-eqb, r)
+statuses-rest is ss h e r = rw (statuses-both, r)
 
 -- ---- what a good list gives its readers
 

@@ -51,6 +51,10 @@ module _ (s : ℕ) (active : List ℕ) (xmax t : ℕ) where
     unfolding finishedWith
     finished-else h a b e = simp (ne-eqb t 0 n, lt-ltb t xmax h, e, ne-eqb s 1 a, ne-eqb s 3 b)
 
+pub finished-at : (st : ℕ → ℕ) (active : List ℕ) (xmax t s : ℕ) → s ≡ st t → finishedWith s active xmax t ≡ finishedBefore st active xmax t
+unfolding finishedBefore
+finished-at st active xmax t s is = rw is
+
 -- ---- visible
 
 module _ (st : ℕ → ℕ) (active : List ℕ) (xmax : ℕ) (cur : Current) where
@@ -60,29 +64,29 @@ module _ (st : ℕ → ℕ) (active : List ℕ) (xmax : ℕ) (cur : Current) whe
     unfolding ofDeleter hiding
     hidden-own e = rw (by, e)
 
-    pub hidden-else : isCurrent cur d ≡ false → {r : Bool} → r ≡ finishedWith (st d) active xmax d → r ≡ ofDeleter (hiding st active xmax cur) stamp
+    pub hidden-else : isCurrent cur d ≡ false → (s : ℕ) → s ≡ st d → finishedWith s active xmax d ≡ ofDeleter (hiding st active xmax cur) stamp
     unfolding ofDeleter hiding finishedBefore
-    hidden-else e q = rw (by, e) q
+    hidden-else e s is = rw (by, e, is)
 
-  -- the creator c
-  module _ (c : ℕ) (stamp : Stamp) where
-    pub unseen-aborted : st c ≡ 3 → false ≡ visible st active xmax cur c stamp
+  -- the creator c, whose state is s
+  module _ (c : ℕ) (stamp : Stamp) (s : ℕ) (is : s ≡ st c) where
+    pub unseen-aborted : s ≡ 3 → false ≡ visible st active xmax cur c stamp
     unfolding visible
-    unseen-aborted e = rw (eq-eqb (st c) 3 e)
+    unseen-aborted e = rw (← is, e)
 
-    module _ (n : st c ≡ 3 → ⊥) where
+    module _ (n : s ≡ 3 → ⊥) where
       pub seen-own : isCurrent cur c ≡ true → not (ofDeleter (isCurrent cur) stamp) ≡ visible st active xmax cur c stamp
       unfolding visible
-      seen-own e = rw (ne-eqb (st c) 3 n, e)
+      seen-own e = rw (← is, ne-eqb s 3 n, e)
 
-      pub unseen-unfinished : isCurrent cur c ≡ false → finishedWith (st c) active xmax c ≡ false → false ≡ visible st active xmax cur c stamp
+      pub unseen-unfinished : isCurrent cur c ≡ false → finishedWith s active xmax c ≡ false → false ≡ visible st active xmax cur c stamp
       unfolding visible finishedBefore
-      unseen-unfinished e f = rw (ne-eqb (st c) 3 n, e, f)
+      unseen-unfinished e f = rw (← is, ne-eqb s 3 n, e, f)
 
-      pub seen-else : isCurrent cur c ≡ false → finishedWith (st c) active xmax c ≡ true
+      pub seen-else : isCurrent cur c ≡ false → finishedWith s active xmax c ≡ true
           → not (ofDeleter (hiding st active xmax cur) stamp) ≡ visible st active xmax cur c stamp
       unfolding visible finishedBefore
-      seen-else e f = rw (ne-eqb (st c) 3 n, e, f)
+      seen-else e f = rw (← is, ne-eqb s 3 n, e, f)
 
 -- ---- conflict
 
@@ -136,16 +140,17 @@ module _ (bound d s : ℕ) where
   unfolding stampedFate
   stamped-late a h = simp (le-ltb d bound h, ne-eqb s 3 a)
 
-module _ (st : ℕ → ℕ) (bound c : ℕ) (stamp : Stamp) where
-  pub fate-aborted : st c ≡ 3 → Fate.Dropped ≡ fate st bound c stamp
+-- of a version whose creator c has the state s
+module _ (st : ℕ → ℕ) (bound c : ℕ) (stamp : Stamp) (s : ℕ) (is : s ≡ st c) where
+  pub fate-aborted : s ≡ 3 → Fate.Dropped ≡ fate st bound c stamp
   unfolding fate dropped abortedCreator
-  fate-aborted e = rw (eq-eqb (st c) 3 e)
+  fate-aborted e = rw (← is, e)
 
-  module _ (n : st c ≡ 3 → ⊥) where
+  module _ (n : s ≡ 3 → ⊥) where
     pub fate-live : stamp ≡ Stamp.Absent → Fate.Same ≡ fate st bound c stamp
     unfolding fate dropped abortedCreator removableDeleter abortedDeleter ofDeleter
-    fate-live e = rw (ne-eqb (st c) 3 n, e)
+    fate-live e = rw (← is, ne-eqb s 3 n, e)
 
-    pub fate-stamped : (d : ℕ) → stamp ≡ Stamp.By d → {r : Fate} → r ≡ stampedFate bound d (st d) → r ≡ fate st bound c stamp
+    pub fate-stamped : (d : ℕ) → stamp ≡ Stamp.By d → (z : ℕ) → z ≡ st d → stampedFate bound d z ≡ fate st bound c stamp
     unfolding fate dropped abortedCreator removableDeleter abortedDeleter ofDeleter stampedFate
-    fate-stamped d e q = rw (ne-eqb (st c) 3 n, e) q
+    fate-stamped d e z q = rw (← is, ne-eqb s 3 n, e, q)

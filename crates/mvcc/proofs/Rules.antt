@@ -29,11 +29,11 @@ module _ (st : ℕ → ℕ) (active : List ℕ) (xmax c : ℕ) where
 
   own-live : (st c ≡ 3 → ⊥) → visible st active xmax (Current.Tx c) c Stamp.Absent ≡ true
   unfolding ofDeleter
-  own-live n = sym (seen-own st active xmax (Current.Tx c) c Stamp.Absent n own-current)
+  own-live n = sym (seen-own st active xmax (Current.Tx c) c Stamp.Absent (st c) refl n own-current)
 
   own-other : (d : ℕ) → (st c ≡ 3 → ⊥) → (d ≡ c → ⊥) → visible st active xmax (Current.Tx c) c (Stamp.By d) ≡ true
   unfolding ofDeleter isCurrent
-  own-other d n m = sym (seen-own st active xmax (Current.Tx c) c (Stamp.By d) n own-current) ∙ rw (ne-eqb d c m)
+  own-other d n m = sym (seen-own st active xmax (Current.Tx c) c (Stamp.By d) (st c) refl n own-current) ∙ rw (ne-eqb d c m)
 
   own-gone : visible st active xmax (Current.Tx c) c (Stamp.By c) ≡ false
   unfolding visible ofDeleter isCurrent
@@ -48,7 +48,7 @@ unfolding mem lookup isCurrent ofDeleter finishedWith finishedBefore hiding visi
 rules-hold = record {
   absent-finished = absent-finished;
   zero-finished = zero-finished;
-  aborted-invisible = λ st active xmax cur c stamp e. sym (unseen-aborted st active xmax cur c stamp e);
+  aborted-invisible = λ st active xmax cur c stamp e. sym (unseen-aborted st active xmax cur c stamp (st c) refl e);
   own-live = own-live;
   own-other = own-other;
   own-gone = own-gone;

@@ -1,7 +1,8 @@
 -- `mvcc::finished_before` meets its contract: the state is looked up, and the rule asked of it.
 -- Assumes nothing.
+use mathlib.Core.Path.{_∙_}
 use borrow.Author.Needs.{needs}
-use Rattle.mvcc.specs.Rules.{finishedBefore}
+use Rattle.mvcc.proofs.RuleLaws.{finished-at}
 use Rattle.mvcc.proofs.finished_before.Statement.{statement}
 use Rattle.mvcc.proofs.finished_before.Tie as tie
 
@@ -12,8 +13,7 @@ finished-with-requires : tie.Need-finished-with-requires
 finished-with-requires c κs = search needs
 
 returns : tie.Need-returns
-unfolding finishedBefore
-returns c = cc
+returns c = c .finished-with .ensures ∙ finished-at _ _ _ _ _ (c .before .status-of .ensures)
 
 pub finished-before-spec : {M : Type 1} → statement M
 finished-before-spec = tie.close (tie.spec status-of-requires finished-with-requires returns)

@@ -1,5 +1,6 @@
 -- `mvcc::finished_with` meets its contract, test by test.
 -- Assumes nothing.
+use mathlib.Core.Path.{sym, _∙_}
 use borrow.Author.Needs.{needs}
 use Rattle.mvcc.proofs.RuleLaws.{finished-zero, unfinished-late, unfinished-running, unfinished-aborted, unfinished-active, finished-else}
 use Rattle.mvcc.proofs.finished_with.Statement.{statement}
@@ -21,10 +22,10 @@ in-active-requires : tie.Need-in-active-requires
 in-active-requires c κs = search needs
 
 returns-5 : tie.Need-returns-5
-returns-5 c = unfinished-active _ _ _ _ (search needs) (cc)
+returns-5 c = unfinished-active _ _ _ _ (search needs) (sym (c .before .in-active .ensures) ∙ c .if5 .taken)
 
 returns-6 : tie.Need-returns-6
-returns-6 c = finished-else _ _ _ _ (search needs) (search needs) (search needs) (search needs) (cc)
+returns-6 c = finished-else _ _ _ _ (search needs) (search needs) (search needs) (search needs) (sym (c .before .in-active .ensures) ∙ c .if5 .left)
 
 pub finished-with-spec : {M : Type 1} → statement M
 finished-with-spec =

@@ -1,6 +1,6 @@
 -- `mvcc::vacuum::fate_of` meets its contract, test by test.
 -- Assumes nothing.
-use native.Mathlib.Omega.{arith}
+use mathlib.Core.Path.{_∙_}
 use borrow.Author.Needs.{needs}
 use Rattle.mvcc.proofs.RuleLaws.{fate-aborted, fate-live, fate-stamped}
 use Rattle.mvcc.proofs.vacuum.fate_of.Statement.{statement}
@@ -10,7 +10,7 @@ status-of-requires : tie.Need-status-of-requires
 status-of-requires c κs = search needs
 
 returns : tie.Need-returns
-returns c = fate-aborted _ _ _ _ (cc)
+returns c = fate-aborted _ _ _ _ _ (c .before .status-of .ensures) (search needs)
 
 enum-known-stamp : tie.Need-enum-known-stamp
 enum-known-stamp c = search needs
@@ -25,10 +25,12 @@ enum-told : tie.Need-enum-told
 enum-told c = search needs
 
 returns-2 : tie.Need-returns-2
-returns-2 c = fate-stamped _ _ _ _ (λ e. omega arith) _ (c .before .before .before .stamp .given .1) (cc)
+returns-2 c =
+    let at = c .before .before .before in
+    c .stamped-fate .ensures ∙ fate-stamped _ _ _ _ _ (at .before .before .before .status-of .ensures) (search needs) _ (at .stamp .given .1) _ (c .before .status-of2 .ensures)
 
 returns-3 : tie.Need-returns-3
-returns-3 c = fate-live _ _ _ _ (λ e. omega arith) (search needs)
+returns-3 c = fate-live _ _ _ _ _ (c .before .before .before .status-of .ensures) (search needs) (search needs)
 
 pub fate-of-spec : {M : Type 1} → statement M
 fate-of-spec =

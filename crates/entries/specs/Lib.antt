@@ -1,0 +1,2 @@
+-- What a reader of the contracts of `entries` has to believe.
+pub mod Entries

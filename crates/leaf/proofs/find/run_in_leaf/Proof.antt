@@ -1,0 +1,95 @@
+use Rattle.leaf.proofs.Finding.{loop-type, loop-bad, loop-done, running-count}
+use Rattle.leaf.proofs.Walking.{walk, walk-bad, walk-in, walk-done, step-next}
+use Rattle.leaf.specs.declared.find.LeafRun.{LeafRun}
+use Rattle.leaf.specs.Find.{running, runLeaf}
+use Prim.Native.Nat.{_+_}
+use native.Mathlib.Omega.{arith}
+use Prim.Native.Nat.{_≤_}
+use mathlib.Core.Path.{_≡_, refl, sym, _∙_}
+-- `leaf::find::run_in_leaf` meets its contract: the walk that is left gives what the whole walk gives. Assumes nothing.
+use borrow.Author.Needs.{needs}
+use Rattle.leaf.proofs.find.run_in_leaf.Statement.{statement}
+use Rattle.leaf.proofs.find.run_in_leaf.Tie as tie
+use Rattle.leaf.proofs.find.run_in_leaf.Reads as reads
+use Rattle.leaf.proofs.find.run_in_leaf.Lts as lts
+use Rattle.leaf.proofs.find.running_of.Reads as running-of-reads
+use Rattle.leaf.proofs.next_cell.Reads as next-cell-reads
+use Rattle.leaf.proofs.structural_fault.Reads as structural-fault-reads
+use Rattle.page.proofs.get_cell_count.Reads as get-cell-count-reads
+use Rattle.page.proofs.get_node_type.Reads as get-node-type-reads
+
+abbrev Inv-loop : tie.InvT-loop
+Inv-loop pg p key left₀ at₀ k₀ c₀ here₀ left at k c here = (at ≤ 4096) × (walk (running key) p k c left at here pg ≡ walk (running key) p 0 0 left₀ 12 (record { from = 12; to = 12; count = 0 }) pg) × (here .count + left ≤ left₀)
+
+abbrev μ-loop : tie.MeasureT-loop
+μ-loop pg p key left₀ at₀ k₀ c₀ here₀ left at k c here = left
+
+get-node-type-requires : tie.Need-get-node-type-requires Inv-loop μ-loop
+get-node-type-requires c κs = search needs
+
+structural-fault-requires : tie.Need-structural-fault-requires Inv-loop μ-loop
+structural-fault-requires c κs = search needs
+
+returns : tie.Need-returns Inv-loop μ-loop
+unfolding runLeaf
+returns c = loop-type (λ e b l. LeafRun.Ok b e l) (λ f. LeafRun.Bad f) _ _ _ _ _ (λ e. omega arith) (c .structural-fault .ensures)
+
+get-cell-count-requires : tie.Need-get-cell-count-requires Inv-loop μ-loop
+get-cell-count-requires c κs = search needs
+
+cast-left : tie.Need-cast-left Inv-loop μ-loop
+cast-left c = search needs
+
+loop-holds : tie.Need-loop-holds Inv-loop μ-loop
+loop-holds c = (omega arith, refl, omega arith)
+
+next-cell-requires : tie.Need-next-cell-requires Inv-loop μ-loop
+next-cell-requires c κs = search needs
+
+enum-known-f : tie.Need-enum-known-f Inv-loop μ-loop
+enum-known-f c = search needs
+
+returns-2 : tie.Need-returns-2 Inv-loop μ-loop
+unfolding runLeaf
+returns-2 c = loop-bad (λ e b l. LeafRun.Ok b e l) (λ f. LeafRun.Bad f) _ _ _ _ _ (omega arith) (c .before .before .before .before .before .before .get-cell-count .ensures) (sym (walk-bad _ _ _ _ _ _ _ _ (search needs) (c .before .before .before .next-cell .ensures) (c .before .f .given .1)) ∙ c .before .before .before .before .before .loop .inv .1)
+
+enum-known-x : tie.Need-enum-known-x Inv-loop μ-loop
+enum-known-x c = search needs
+
+running-of-requires : tie.Need-running-of-requires Inv-loop μ-loop
+running-of-requires c κs = search needs
+
+sub-left : tie.Need-sub-left Inv-loop μ-loop
+sub-left c = search needs
+
+loop-less : tie.Need-loop-less Inv-loop μ-loop
+loop-less c = search needs
+
+loop-again : tie.Need-loop-again Inv-loop μ-loop
+loop-again c = (omega (arith, step-next _ _ _ _ _ (c .before .before .before .before .before .next-cell .ensures) (c .before .before .before .x .given .1)), walk-in _ _ _ _ _ _ _ _ (search needs) (c .before .before .before .before .before .next-cell .ensures) (c .before .before .before .x .given .1) (c .running-of .ensures) ∙ c .before .before .before .before .before .before .before .loop .inv .1, omega (arith, running-count _ _ _ (c .running-of .ensures)))
+
+returns-3 : tie.Need-returns-3 Inv-loop μ-loop
+unfolding runLeaf
+returns-3 c = loop-done (λ e b l. LeafRun.Ok b e l) (λ f. LeafRun.Bad f) _ _ _ _ _ (omega arith) (c .before .before .get-cell-count .ensures) (sym (walk-done _ _ _ _ _ _ _ _ (search needs)) ∙ c .before .loop .inv .1)
+
+pub run-in-leaf-spec : {M : Type 1} → statement M
+run-in-leaf-spec =
+    tie.close
+    (tie.spec
+    Inv-loop
+    μ-loop
+    get-node-type-requires
+    structural-fault-requires
+    returns
+    get-cell-count-requires
+    cast-left
+    loop-holds
+    next-cell-requires
+    enum-known-f
+    returns-2
+    enum-known-x
+    running-of-requires
+    sub-left
+    loop-less
+    loop-again
+    returns-3)

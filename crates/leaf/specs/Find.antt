@@ -1,0 +1,56 @@
+-- What a walk over a leaf looks for (document 01, section 4): the newest visible version of a key, a conflict among its
+-- versions, and the run of its cells. Each is a fold over the leaf's cells, after the leaf was judged.
+use mathlib.Core.Bool.{Bool, _&&_, _||_}
+use mathlib.Core.List.{List}
+use Prim.Native.Nat.{ℕ, _+_}
+use lib.Dec.{ltb, eqb}
+use Rattle.store.specs.Pick.{pick}
+use Rattle.mvcc.specs.Rules.{visible, conflicting, claimConflicting}
+use Rattle.mvcc.specs.declared.Current.{Current}
+use Rattle.row.specs.declared.Stamp.{Stamp}
+use Rattle.row.specs.declared.Cell.{Cell}
+use Rattle.leaf.specs.Cells.{cells, foldCells, judgeLeaf, onJudged, hasLarger}
+use Rattle.leaf.specs.declared.find.Best.{Best}
+use Rattle.leaf.specs.declared.find.LeafBest.{LeafBest}
+use Rattle.leaf.specs.declared.find.LeafTest.{LeafTest}
+use Rattle.leaf.specs.declared.find.Run.{Run}
+use Rattle.leaf.specs.declared.find.LeafRun.{LeafRun}
+
+-- "Lookup and stamp choose the largest visible creator; on a tie the last in chain order": of the best so far and a
+-- visible version of the key in page p
+abbrev pub later : ℕ → Best → Cell → Best
+later p Best.Nothing c = Best.At p c
+later p (Best.At q o) c = pick (ltb (c .version .creator) (o .version .creator)) (Best.At q o) (Best.At p c)
+
+unfoldable pub newest : (ℕ → ℕ) → List ℕ → ℕ → Current → (p key : ℕ) → Best → Cell → Best
+newest st active xmax cur p key best c =
+    pick (eqb (c .key) key && visible st active xmax cur (c .version .creator) (c .version .stamp)) (later p best c) best
+
+-- the best after this leaf, and whether the leaf holds a larger key, so that the search ends here
+unfoldable pub findLeaf : (ℕ → ℕ) → List ℕ → ℕ → Current → (p key : ℕ) → Best → List ℕ → LeafBest
+findLeaf st active xmax cur p key best pg =
+    onJudged (λ e. LeafBest.Ok (foldCells (newest st active xmax cur p key) best (cells pg)) (hasLarger key (cells pg))) (λ f. LeafBest.Bad f) (judgeLeaf p pg)
+
+-- the conflict test of one version: the ported one, or claim's own
+abbrev pub testOf : (claiming : Bool) → (ℕ → ℕ) → List ℕ → ℕ → Current → (seen creator : ℕ) → Stamp → Bool
+testOf claiming st active xmax cur seen creator stamp = pick claiming (claimConflicting st active xmax cur seen creator stamp) (conflicting active xmax cur seen creator stamp)
+
+-- "if some version of the key ..": found so far, or this one
+unfoldable pub joined : (claiming : Bool) → (ℕ → ℕ) → List ℕ → ℕ → Current → (seen key : ℕ) → Bool → Cell → Bool
+joined claiming st active xmax cur seen key found c =
+    found || (eqb (c .key) key && testOf claiming st active xmax cur seen (c .version .creator) (c .version .stamp))
+
+unfoldable pub testLeaf : (claiming : Bool) → (ℕ → ℕ) → List ℕ → ℕ → Current → (p seen key : ℕ) → Bool → List ℕ → LeafTest
+testLeaf claiming st active xmax cur p seen key found pg =
+    onJudged (λ e. LeafTest.Ok (foldCells (joined claiming st active xmax cur seen key) found (cells pg)) (hasLarger key (cells pg))) (λ f. LeafTest.Bad f) (judgeLeaf p pg)
+
+-- the run of a key's cells, which stand together: where it starts and ends, and how many they are. Cells of a smaller key
+-- move both ends.
+unfoldable pub running : ℕ → Run → Cell → Run
+running key here c =
+    pick (ltb (c .key) key) (record { from = c .next; to = c .next; count = 0 })
+    (pick (eqb (c .key) key) (record { from = here .from; to = c .next; count = here .count + 1 }) here)
+
+unfoldable pub runLeaf : (p key : ℕ) → List ℕ → LeafRun
+runLeaf p key pg =
+    onJudged (λ e. LeafRun.Ok (foldCells (running key) (record { from = 12; to = 12; count = 0 }) (cells pg)) e (hasLarger key (cells pg))) (λ f. LeafRun.Bad f) (judgeLeaf p pg)
