@@ -1,26 +1,22 @@
 -- Rows and bytes of a leaf, both ways: rows that are written are read back, and the bytes of cells that are read are the
 -- rows'; and the judgement said over rows. Assumes nothing.
-use mathlib.Core.Path.{_≡_, refl, sym, ap, ap₂, _∙_, subst}
-use mathlib.Core.Bool.{Bool, true, false, _&&_}
+use mathlib.Core.Path.{_≡_, refl, ap, _∙_}
 use mathlib.Core.List.{List, [], _∷_, _++_, map}
-use Prim.Native.Nat.{ℕ, zero, suc, _+_, _-_, _≤_, _<_}
+use Prim.Native.Nat.{ℕ, zero, suc, _+_, _-_, _≤_}
 use native.Mathlib.Omega.{arith}
 use lib.ListN.{length, length-append}
-use Rattle.store.specs.Pick.{pick}
 use Rattle.store.specs.Le.{AreBytes}
 use Rattle.store.specs.Part.{part}
 use Rattle.store.proofs.PartLaws.{part-add, part-peel, part-first}
 use Rattle.store.proofs.PutLaws.{part-none}
 use Rattle.row.specs.Read.{cellAt}
 use Rattle.row.specs.Write.{stampLen, pointerLen, stampBytes, pointerBytes, headBytes, cellSize, cellBytes}
-use Rattle.row.specs.Exact.{cellOf}
 use Rattle.row.specs.declared.Cell.{Cell}
 use Rattle.row.specs.declared.read.CellRead.{CellRead}
 use Rattle.row.proofs.Writing.{length-head, length-stamp, length-pointer, length-cell}
 use Rattle.row.proofs.Exact.{written-is-read, read-is-written, cell-placed}
-use Rattle.leaf.specs.Cells.{onCell, cellsOf, inOrder, judgeCells, structural, cellFault}
-use Rattle.leaf.specs.Rows.{Row, RowFits, AllFit, rowOf, rowsOf, rowSize, rowBytes, rowsBytes, ordered}
-use Rattle.leaf.specs.declared.Judged.{Judged}
+use Rattle.leaf.specs.Cells.{onCell, cellsOf}
+use Rattle.leaf.specs.Rows.{Row, AllFit, rowOf, rowsOf, rowSize, rowBytes, rowsBytes}
 
 -- ---- written, then read
 

@@ -1,7 +1,6 @@
 -- A row is a cell without its places: key, creator, stamp, pointer and data. The rows of a leaf, their bytes, and what
 -- writing a leaf does (document 01, section 2: "zeroes bytes 12 to 4095, stores the cells one after another and sets
 -- the count; bytes 8 to 11 stay").
-use mathlib.Core.Path.{_≡_}
 use mathlib.Core.List.{List, [], _∷_, _++_, map}
 use mathlib.Core.Bool.{Bool, true, _&&_}
 use Prim.Native.Nat.{ℕ, _+_, _≤_, _<_}
@@ -13,7 +12,7 @@ use Rattle.row.specs.Exact.{StampFits, PointerFits}
 use Rattle.row.specs.declared.Stamp.{Stamp}
 use Rattle.row.specs.declared.Pointer.{Pointer}
 use Rattle.row.specs.declared.Cell.{Cell}
-use Rattle.leaf.specs.Cells.{cellsOf, cells, inOrder}
+use Rattle.leaf.specs.Cells.{cellsOf, inOrder}
 
 pub record Row : Type 0 where
   pub key : ℕ

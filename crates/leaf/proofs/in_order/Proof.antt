@@ -2,8 +2,6 @@ use Rattle.leaf.proofs.Walking.{order-less, order-more, order-same}
 use borrow.Author.Needs.{needs}
 use Rattle.leaf.proofs.in_order.Statement.{statement}
 use Rattle.leaf.proofs.in_order.Tie as tie
-use Rattle.leaf.proofs.in_order.Reads as reads
-use Rattle.leaf.proofs.in_order.Lts as lts
 
 returns : tie.Need-returns
 returns c = order-less _ _ _ _ (search needs)

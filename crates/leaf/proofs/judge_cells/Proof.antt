@@ -6,9 +6,6 @@ use mathlib.Core.Path.{_≡_, refl, sym, _∙_}
 use borrow.Author.Needs.{needs}
 use Rattle.leaf.proofs.judge_cells.Statement.{statement}
 use Rattle.leaf.proofs.judge_cells.Tie as tie
-use Rattle.leaf.proofs.judge_cells.Reads as reads
-use Rattle.leaf.proofs.judge_cells.Lts as lts
-use Rattle.leaf.proofs.next_cell.Reads as next-cell-reads
 
 abbrev Inv-loop : tie.InvT-loop
 Inv-loop pg p n at₀ left₀ k₀ c₀ at left k c = (at ≤ 4096) × (walk nothing p k c left at 0 pg ≡ walk nothing p 0 0 n 12 0 pg)

@@ -3,12 +3,6 @@ use native.Mathlib.Omega.{arith}
 use borrow.Author.Needs.{needs}
 use Rattle.leaf.proofs.judge_leaf.Statement.{statement}
 use Rattle.leaf.proofs.judge_leaf.Tie as tie
-use Rattle.leaf.proofs.judge_leaf.Reads as reads
-use Rattle.leaf.proofs.judge_leaf.Lts as lts
-use Rattle.leaf.proofs.judge_cells.Reads as judge-cells-reads
-use Rattle.leaf.proofs.structural_fault.Reads as structural-fault-reads
-use Rattle.page.proofs.get_cell_count.Reads as get-cell-count-reads
-use Rattle.page.proofs.get_node_type.Reads as get-node-type-reads
 
 get-node-type-requires : tie.Need-get-node-type-requires
 get-node-type-requires c κs = search needs

@@ -3,12 +3,6 @@ use Rattle.leaf.proofs.Walking.{step-bad, step-in, step-out}
 use borrow.Author.Needs.{needs}
 use Rattle.leaf.proofs.next_cell.Statement.{statement}
 use Rattle.leaf.proofs.next_cell.Tie as tie
-use Rattle.leaf.proofs.next_cell.Reads as reads
-use Rattle.leaf.proofs.next_cell.Lts as lts
-use Rattle.leaf.proofs.cell_fault.Reads as cell-fault-reads
-use Rattle.leaf.proofs.in_order.Reads as in-order-reads
-use Rattle.leaf.proofs.structural_fault.Reads as structural-fault-reads
-use Rattle.row.proofs.read.read_cell.Reads as read-cell-reads
 
 read-cell-requires : tie.Need-read-cell-requires
 read-cell-requires c κs = search needs

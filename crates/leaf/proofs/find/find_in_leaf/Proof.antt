@@ -10,13 +10,6 @@ use mathlib.Core.Path.{_≡_, refl, sym, _∙_}
 use borrow.Author.Needs.{needs}
 use Rattle.leaf.proofs.find.find_in_leaf.Statement.{statement}
 use Rattle.leaf.proofs.find.find_in_leaf.Tie as tie
-use Rattle.leaf.proofs.find.find_in_leaf.Reads as reads
-use Rattle.leaf.proofs.find.find_in_leaf.Lts as lts
-use Rattle.leaf.proofs.find.newest_of.Reads as newest-of-reads
-use Rattle.leaf.proofs.next_cell.Reads as next-cell-reads
-use Rattle.leaf.proofs.structural_fault.Reads as structural-fault-reads
-use Rattle.page.proofs.get_cell_count.Reads as get-cell-count-reads
-use Rattle.page.proofs.get_node_type.Reads as get-node-type-reads
 
 abbrev Inv-loop : tie.InvT-loop
 Inv-loop pg ids states active xmax cur p key left₀ at₀ k₀ c₀ found₀ left at k c found = (at ≤ 4096) × (walk (newest (lookup ids states) active xmax cur p key) p k c left at found pg ≡ walk (newest (lookup ids states) active xmax cur p key) p 0 0 left₀ 12 found₀ pg)

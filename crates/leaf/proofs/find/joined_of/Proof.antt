@@ -3,10 +3,6 @@ use Rattle.leaf.proofs.Finding.{joined-found, joined-other, joined-clai
 use borrow.Author.Needs.{needs}
 use Rattle.leaf.proofs.find.joined_of.Statement.{statement}
 use Rattle.leaf.proofs.find.joined_of.Tie as tie
-use Rattle.leaf.proofs.find.joined_of.Reads as reads
-use Rattle.leaf.proofs.find.joined_of.Lts as lts
-use Rattle.mvcc.proofs.claim_conflicts.Reads as claim-conflicts-reads
-use Rattle.mvcc.proofs.version_conflicts.Reads as version-conflicts-reads
 
 returns : tie.Need-returns
 returns c = joined-found _ _ _ _ _ _ _ _ _ (search needs)

@@ -3,8 +3,6 @@ use Rattle.leaf.proofs.Finding.{later-first, later-old, later-new}
 use borrow.Author.Needs.{needs}
 use Rattle.leaf.proofs.find.later_of.Statement.{statement}
 use Rattle.leaf.proofs.find.later_of.Tie as tie
-use Rattle.leaf.proofs.find.later_of.Reads as reads
-use Rattle.leaf.proofs.find.later_of.Lts as lts
 
 enum-told : tie.Need-enum-told
 enum-told c = search needs

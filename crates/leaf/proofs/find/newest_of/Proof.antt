@@ -3,10 +3,6 @@ use Rattle.leaf.proofs.Finding.{newest-other, newest-seen, newest-unsee
 use borrow.Author.Needs.{needs}
 use Rattle.leaf.proofs.find.newest_of.Statement.{statement}
 use Rattle.leaf.proofs.find.newest_of.Tie as tie
-use Rattle.leaf.proofs.find.newest_of.Reads as reads
-use Rattle.leaf.proofs.find.newest_of.Lts as lts
-use Rattle.leaf.proofs.find.later_of.Reads as later-of-reads
-use Rattle.mvcc.proofs.is_visible.Reads as is-visible-reads
 
 returns : tie.Need-returns
 returns c = newest-other _ _ _ _ _ _ _ _ (search needs)

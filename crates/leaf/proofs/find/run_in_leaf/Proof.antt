@@ -10,13 +10,6 @@ use mathlib.Core.Path.{_≡_, refl, sym, _∙_}
 use borrow.Author.Needs.{needs}
 use Rattle.leaf.proofs.find.run_in_leaf.Statement.{statement}
 use Rattle.leaf.proofs.find.run_in_leaf.Tie as tie
-use Rattle.leaf.proofs.find.run_in_leaf.Reads as reads
-use Rattle.leaf.proofs.find.run_in_leaf.Lts as lts
-use Rattle.leaf.proofs.find.running_of.Reads as running-of-reads
-use Rattle.leaf.proofs.next_cell.Reads as next-cell-reads
-use Rattle.leaf.proofs.structural_fault.Reads as structural-fault-reads
-use Rattle.page.proofs.get_cell_count.Reads as get-cell-count-reads
-use Rattle.page.proofs.get_node_type.Reads as get-node-type-reads
 
 abbrev Inv-loop : tie.InvT-loop
 Inv-loop pg p key left₀ at₀ k₀ c₀ here₀ left at k c here = (at ≤ 4096) × (walk (running key) p k c left at here pg ≡ walk (running key) p 0 0 left₀ 12 (record { from = 12; to = 12; count = 0 }) pg) × (here .count + left ≤ left₀)

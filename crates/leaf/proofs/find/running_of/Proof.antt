@@ -3,8 +3,6 @@ use Rattle.leaf.proofs.Finding.{running-below, running-same, running-ab
 use borrow.Author.Needs.{needs}
 use Rattle.leaf.proofs.find.running_of.Statement.{statement}
 use Rattle.leaf.proofs.find.running_of.Tie as tie
-use Rattle.leaf.proofs.find.running_of.Reads as reads
-use Rattle.leaf.proofs.find.running_of.Lts as lts
 
 returns : tie.Need-returns
 returns c = running-below _ _ _ (search needs)
