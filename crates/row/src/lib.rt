@@ -34,3 +34,10 @@ pub struct Cell {
     pub version: Version,
     pub next: usize,
 }
+
+// What was met where a page cannot be read on: kind 1 to 4 and the offset of the cell; 0 and 0 for the page's structure.
+pub struct Fault {
+    pub kind: u8,
+    pub page: u32,
+    pub offset: u16,
+}
