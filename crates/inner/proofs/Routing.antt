@@ -1,14 +1,12 @@
 -- Laws of judging and of routing: a turn of each loop, each way out of the judgement, and the squeeze of the search by
 -- halves. Assumes nothing.
-use mathlib.Core.Path.{_≡_, refl, sym, ap, _∙_}
+use mathlib.Core.Path.{_≡_, refl, ap}
 use mathlib.Core.Bool.{Bool, true, false, _&&_}
-use mathlib.Core.List.{List, [], _∷_}
-use mathlib.Core.Logic.{⊎-elim}
-use Prim.Native.Nat.{ℕ, zero, suc, _+_, _-_, _≤_, _<_}
+use mathlib.Core.List.{List}
+use Prim.Native.Nat.{ℕ, zero, suc, _+_, _≤_, _<_}
 use native.Mathlib.Omega.{arith}
-use borrow.Author.Tests.{le-leb, lt-leb, leb-true, leb-false, eq-eqb, ne-eqb}
+use borrow.Author.Tests.{le-leb, lt-leb, leb-true, eq-eqb, ne-eqb}
 use lib.Dec.{leb, eqb}
-use lib.ListN.{length, getD}
 use Rattle.store.specs.Pick.{pick}
 use Rattle.page.specs.Header.{nodeType, cellCount}
 use Rattle.inner.specs.Inner.{keyAt, childAt, keysFrom, childrenFrom, neverFalls, structural, judgeInner}

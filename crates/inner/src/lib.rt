@@ -4,10 +4,10 @@ pub mod edit;
 
 ghost use mathlib.Core.Path.{_≡_};
 ghost use mathlib.Core.Bool.{true};
-ghost use Prim.Native.Nat.{_+_, _≤_, _<_};
+ghost use Prim.Native.Nat.{_≤_, _<_};
 ghost use lib.Dec.{leb};
 ghost use lib.ListN.{length};
-ghost use Rattle.inner.specs.Inner.{keyAt, childAt, keysFrom, keysOf, childrenFrom, neverFalls, judgeInner};
+ghost use Rattle.inner.specs.Inner.{keyAt, childAt, keysFrom, childrenFrom, neverFalls, judgeInner};
 ghost use Rattle.inner.specs.Route.{firstWhere, searchRoute, insertRoute, childPlace};
 use row::Fault;
 

@@ -1,5 +1,4 @@
 -- `inner::first_from` meets its contract: both ends close in on the place that the contract computes. Assumes nothing.
-use mathlib.Core.Path.{_≡_}
 use Prim.Native.Nat.{_+_, _-_, _/_, _≤_}
 use native.Mathlib.Omega.{arith}
 use lib.Dec.{leb}
