@@ -1,0 +1,50 @@
+-- An internal page (document 01, section 2): a child, then per key a signed key and a child; its keys and children as
+-- lists, and its judgement (section 3: "1 to 510 non-decreasing keys").
+use mathlib.Core.Bool.{Bool, true, _&&_}
+use mathlib.Core.List.{List, [], _∷_}
+use Prim.Native.Nat.{ℕ, zero, suc, _+_, _*_}
+use lib.Dec.{leb, ltb, eqb}
+use Rattle.store.specs.Pick.{pick}
+use Rattle.store.specs.Le.{leAt}
+use Rattle.page.specs.Header.{nodeType, cellCount}
+use Rattle.page.specs.Key.{rankAt}
+use Rattle.row.specs.declared.Fault.{Fault}
+use Rattle.inner.specs.declared.InnerJudged.{InnerJudged}
+
+-- key i, by its rank, and child i; child i is left of key i
+unfoldable pub keyAt : List ℕ → ℕ → ℕ
+keyAt pg i = rankAt pg (16 + 8 * i)
+
+unfoldable pub childAt : List ℕ → ℕ → ℕ
+childAt pg i = leAt 4 pg (12 + 8 * i)
+
+-- n keys, and n children, from the i-th on
+unfoldable pub keysFrom : (i n : ℕ) → List ℕ → List ℕ
+keysFrom i zero pg = []
+keysFrom i (suc n) pg = keyAt pg i ∷ keysFrom (i + 1) n pg
+
+unfoldable pub childrenFrom : (i n : ℕ) → List ℕ → List ℕ
+childrenFrom i zero pg = []
+childrenFrom i (suc n) pg = childAt pg i ∷ childrenFrom (i + 1) n pg
+
+abbrev pub keysOf : List ℕ → List ℕ
+keysOf pg = keysFrom 0 (cellCount pg) pg
+
+abbrev pub childrenOf : List ℕ → List ℕ
+childrenOf pg = childrenFrom 0 (cellCount pg + 1) pg
+
+-- x, then l, never falls
+unfoldable pub neverFalls : ℕ → List ℕ → Bool
+neverFalls x [] = true
+neverFalls x (y ∷ ys) = leb x y && neverFalls y ys
+
+-- a fault of the page's structure
+abbrev pub structural : ℕ → Fault
+structural p = record { kind = 0; page = p; offset = 0 }
+
+-- page p with the bytes pg: how many keys it has, or its fault. A rank is never below 0.
+unfoldable pub judgeInner : ℕ → List ℕ → InnerJudged
+judgeInner p pg =
+    pick (eqb (nodeType pg) 0 && (leb 1 (cellCount pg) && (leb (cellCount pg) 510 && neverFalls 0 (keysOf pg))))
+    (InnerJudged.Ok (cellCount pg))
+    (InnerJudged.Bad (structural p))

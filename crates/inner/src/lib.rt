@@ -1,0 +1,126 @@
+// An internal page (document 01, sections 2, 3 and 5; btree.rs): its keys and children, its judgement, and the child
+// that a key leads to. Module edit enters, divides and makes internal pages.
+pub mod edit;
+
+ghost use mathlib.Core.Path.{_≡_};
+ghost use mathlib.Core.Bool.{true};
+ghost use Prim.Native.Nat.{_≤_, _<_};
+ghost use lib.Dec.{leb};
+ghost use lib.ListN.{length};
+ghost use Rattle.inner.specs.Inner.{keyAt, childAt, keysFrom, childrenFrom, neverFalls, judgeInner};
+ghost use Rattle.inner.specs.Route.{firstWhere, searchRoute, insertRoute, childPlace};
+use row::Fault;
+
+pub const MAX_KEYS: usize = 510;
+
+// How many keys the page has, or its fault.
+pub enum InnerJudged {
+    Ok(usize),
+    Bad(Fault),
+}
+
+pub fn key_at(pg: &[u8], i: usize) -> u32
+    requires { ⌜ (i < 510) × (length (now pg) ≡ 4096) ⌝ }
+    ensures { λ r. ⌜ r ≡ keyAt (now (pg .entry)) i ⌝ }
+{
+    page::key::get_rank(pg, 16 + 8 * i)
+}
+
+pub fn child_at(pg: &[u8], i: usize) -> u32
+    requires { ⌜ (i ≤ 510) × (length (now pg) ≡ 4096) ⌝ }
+    ensures { λ r. ⌜ r ≡ childAt (now (pg .entry)) i ⌝ }
+{
+    store::get32(pg, 12 + 8 * i)
+}
+
+// A flag and no way out of the loop, so that the compiler takes several keys at a time: this runs on every descent.
+fn never_falls(pg: &[u8], n: usize) -> bool
+    requires { ⌜ (n ≤ 510) × (length (now pg) ≡ 4096) ⌝ }
+    ensures { λ r. ⌜ r ≡ neverFalls 0 (keysFrom 0 n (now (pg .entry))) ⌝ }
+{
+    let mut ok = true;
+    let mut last: u32 = 0;
+    let mut i = 0;
+    while i < n {
+        let k = key_at(pg, i);
+        ok = ok & (last <= k);
+        last = k;
+        i += 1;
+    }
+    ok
+}
+
+pub fn judge_inner(pg: &[u8], p: u32) -> InnerJudged
+    requires { ⌜ length (now pg) ≡ 4096 ⌝ }
+    ensures { λ r. ⌜ r ≡ judgeInner p (now (pg .entry)) ⌝ }
+{
+    let bad = Fault {
+        kind: 0,
+        page: p,
+        offset: 0,
+    };
+    let n = page::get_cell_count(pg) as usize;
+    if page::get_node_type(pg) != 0 {
+        return InnerJudged::Bad(bad);
+    }
+    if n < 1 {
+        return InnerJudged::Bad(bad);
+    }
+    if MAX_KEYS < n {
+        return InnerJudged::Bad(bad);
+    }
+    if never_falls(pg, n) {
+        return InnerJudged::Ok(n);
+    }
+    InnerJudged::Bad(bad)
+}
+
+// The first of the n keys that is at least the bound, by halves: the keys never fall.
+fn first_from(pg: &[u8], n: usize, bound: u64) -> usize
+    requires { ⌜ (n ≤ 510) × (length (now pg) ≡ 4096) × (neverFalls 0 (keysFrom 0 n (now pg)) ≡ true) ⌝ }
+    ensures { λ r. ⌜ (r ≡ firstWhere (leb bound) (keysFrom 0 n (now (pg .entry)))) × (r ≤ n) ⌝ }
+{
+    let mut lo = 0;
+    let mut hi = n;
+    while lo < hi {
+        let mid = lo + (hi - lo) / 2;
+        let k = key_at(pg, mid) as u64;
+        if k < bound {
+            lo = mid + 1;
+        } else {
+            hi = mid;
+        }
+    }
+    lo
+}
+
+// The place of the child that search goes to: left on key ≤ separator.
+pub fn search_route(pg: &[u8], n: usize, key: u32) -> usize
+    requires { ⌜ (n ≤ 510) × (length (now pg) ≡ 4096) × (neverFalls 0 (keysFrom 0 n (now pg)) ≡ true) ⌝ }
+    ensures { λ r. ⌜ (r ≡ searchRoute key (keysFrom 0 n (now (pg .entry)))) × (r ≤ n) ⌝ }
+{
+    first_from(pg, n, key as u64)
+}
+
+// The place of the child that insertion goes to: left only on key < separator.
+pub fn insert_route(pg: &[u8], n: usize, key: u32) -> usize
+    requires { ⌜ (n ≤ 510) × (length (now pg) ≡ 4096) × (neverFalls 0 (keysFrom 0 n (now pg)) ≡ true) ⌝ }
+    ensures { λ r. ⌜ (r ≡ insertRoute key (keysFrom 0 n (now (pg .entry)))) × (r ≤ n) ⌝ }
+{
+    first_from(pg, n, key as u64 + 1)
+}
+
+// The first place of a child among n children, or n.
+pub fn child_place(pg: &[u8], n: usize, child: u32) -> usize
+    requires { ⌜ (n ≤ 511) × (length (now pg) ≡ 4096) ⌝ }
+    ensures { λ r. ⌜ (r ≡ childPlace child (childrenFrom 0 n (now (pg .entry)))) × (r ≤ n) ⌝ }
+{
+    let mut i = 0;
+    while i < n {
+        if child_at(pg, i) == child {
+            return i;
+        }
+        i += 1;
+    }
+    i
+}
