@@ -1,0 +1,3 @@
+-- What a reader of the contracts of `tree` has to believe.
+pub mod Descend
+pub mod Chain
