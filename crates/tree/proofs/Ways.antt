@@ -4,24 +4,22 @@ use mathlib.Core.Bool.{Bool, true, false, _&&_}
 use mathlib.Core.List.{List}
 use Prim.Native.Nat.{ℕ, zero, suc, _-_, _≤_, _<_}
 use native.Mathlib.Omega.{arith}
-use borrow.Author.Tests.{lt-ltb, le-ltb, eq-eqb, ne-eqb, leb-true, eqb-true}
-use lib.Dec.{ltb, leb, eqb}
+use borrow.Author.Tests.{lt-ltb, le-ltb, eq-eqb, ne-eqb, leb-true}
+use lib.Dec.{leb, eqb}
 use Rattle.store.specs.Pick.{pick}
 use Rattle.page.specs.Page.{page}
 use Rattle.page.specs.Header.{nodeType, cellCount, nextLeaf}
 use Rattle.row.specs.declared.Fault.{Fault}
-use Rattle.mvcc.specs.declared.Current.{Current}
 use Rattle.inner.specs.Inner.{childAt, keysFrom, keysOf, neverFalls, judgeInner, structural}
 use Rattle.inner.specs.Route.{searchRoute, insertRoute}
 use Rattle.inner.specs.declared.InnerJudged.{InnerJudged}
-use Rattle.leaf.specs.Find.{findLeaf}
 use Rattle.leaf.specs.declared.find.Best.{Best}
 use Rattle.leaf.specs.declared.find.LeafBest.{LeafBest}
-use Rattle.tree.specs.Descend.{turnOf, childOf, onInner, descendOf}
-use Rattle.tree.specs.Chain.{onBest, bestAlong}
+use Rattle.leaf.specs.declared.find.LeafTest.{LeafTest}
+use Rattle.tree.specs.Descend.{childOf, descendOf}
+use Rattle.tree.specs.Chain.{Seen, stop, go, broken, ok, ill, along, seenBest, seenTest}
 use Rattle.tree.specs.declared.Route.{Route}
 use Rattle.tree.specs.declared.Descent.{Descent}
-use Rattle.tree.specs.declared.ChainBest.{ChainBest}
 
 -- ---- internal pages
 
@@ -97,43 +95,57 @@ module _ (route : Route) (used p : ℕ) (s : List ℕ) where
 
 -- ---- along the chain
 
-module _ (st : ℕ → ℕ) (active : List ℕ) (xmax : ℕ) (cur : Current) (used key : ℕ) (best : Best) (p : ℕ) (s : List ℕ) where
-  pub best-again : (m : ℕ) {f : Fault} → m ≤ 0 → f ≡ structural p → ChainBest.Bad f ≡ bestAlong st active xmax cur used key m best p s
-  unfolding bestAlong
-  best-again zero h e = rw e
-  best-again (suc m) h e = absurd (omega arith)
+module _ {A : Type 0} (look : A → ℕ → List ℕ → Seen A) (used : ℕ) (a : A) (p : ℕ) (s : List ℕ) where
+  pub along-again : (m : ℕ) {f : Fault} → m ≤ 0 → f ≡ structural p → ill f ≡ along look used m a p s
+  unfolding along
+  along-again zero h e = rw e
+  along-again (suc m) h e = absurd (omega arith)
 
-  pub best-unused : (m : ℕ) {f : Fault} → 0 < m → used ≤ p → f ≡ structural p → ChainBest.Bad f ≡ bestAlong st active xmax cur used key m best p s
-  unfolding bestAlong
-  best-unused zero z h e = absurd (omega arith)
-  best-unused (suc m) z h e = rw (le-ltb p used h, e)
+  pub along-unused : (m : ℕ) {f : Fault} → 0 < m → used ≤ p → f ≡ structural p → ill f ≡ along look used m a p s
+  unfolding along
+  along-unused zero z h e = absurd (omega arith)
+  along-unused (suc m) z h e = rw (le-ltb p used h, e)
 
-  module _ {pg : List ℕ} {r : LeafBest} (h : p < used) (here : pg ≡ page p s) (said : r ≡ findLeaf st active xmax cur p key best pg) where
-    found : {x : LeafBest} → r ≡ x → findLeaf st active xmax cur p key best (page p s) ≡ x
-    found e = rw here at (sym said ∙ e)
+  module _ {pg : List ℕ} (h : p < used) (here : pg ≡ page p s) where
+    pub along-bad : (m : ℕ) {f : Fault} → 0 < m → look a p pg ≡ broken f → ill f ≡ along look used m a p s
+    unfolding along
+    along-bad zero z e = absurd (omega arith)
+    along-bad (suc m) z e = rw (lt-ltb p used h, ← here, e)
 
-    pub best-bad : (m : ℕ) {f : Fault} → 0 < m → r ≡ LeafBest.Bad f → ChainBest.Bad f ≡ bestAlong st active xmax cur used key m best p s
-    unfolding bestAlong
-    best-bad zero z e = absurd (omega arith)
-    best-bad (suc m) z e = rw (lt-ltb p used h, found e)
+    pub along-last : (m : ℕ) {b : A} → 0 < m → look a p pg ≡ stop b → ok b ≡ along look used m a p s
+    unfolding along
+    along-last zero z e = absurd (omega arith)
+    along-last (suc m) z e = rw (lt-ltb p used h, ← here, e)
 
-    module _ {b : Best} {l : Bool} (got : r ≡ LeafBest.Ok b l) where
-      pub best-last : (m : ℕ) → 0 < m → l ≡ true → ChainBest.Ok b ≡ bestAlong st active xmax cur used key m best p s
-      unfolding bestAlong
-      best-last zero z t = absurd (omega arith)
-      best-last (suc m) z t = rw (lt-ltb p used h, found got, t)
+    pub along-end : (m : ℕ) {b : A} {n : ℕ} → 0 < m → look a p pg ≡ go b → n ≡ nextLeaf pg → n ≡ 0 → ok b ≡ along look used m a p s
+    unfolding along
+    along-end zero z e q t = absurd (omega arith)
+    along-end (suc m) z e q t = rw (lt-ltb p used h, ← here, e, eq-eqb (nextLeaf pg) 0 (sym q ∙ t))
 
-      module _ {n : ℕ} (more : l ≡ false) (next : n ≡ nextLeaf pg) where
-        pub best-end : (m : ℕ) → 0 < m → n ≡ 0 → ChainBest.Ok b ≡ bestAlong st active xmax cur used key m best p s
-        unfolding bestAlong
-        best-end zero z e = absurd (omega arith)
-        best-end (suc m) z e = rw (lt-ltb p used h, found got, more, eq-eqb (nextLeaf (page p s)) 0 (rw (next, here) at e))
+    pub along-on : (m : ℕ) {b : A} {n : ℕ} → 0 < m → look a p pg ≡ go b → n ≡ nextLeaf pg → (n ≡ 0 → ⊥) → along look used (m - 1) b n s ≡ along look used m a p s
+    unfolding along
+    along-on zero z e q t = absurd (omega arith)
+    along-on (suc m) z e q t =
+        let k : suc m - 1 ≡ m = omega arith in
+        rw (lt-ltb p used h, ← here, e, ne-eqb (nextLeaf pg) 0 (λ u. t (q ∙ u)), k, q)
 
-        pub best-on : (m : ℕ) → 0 < m → (n ≡ 0 → ⊥)
-            → bestAlong st active xmax cur used key (m - 1) b n s ≡ bestAlong st active xmax cur used key m best p s
-        unfolding bestAlong
-        best-on zero z e = absurd (omega arith)
-        best-on (suc m) z e =
-            let k : suc m - 1 ≡ m = omega arith in
-            let on : n ≡ nextLeaf (page p s) = rw here at next in
-            rw (lt-ltb p used h, found got, more, ne-eqb (nextLeaf (page p s)) 0 (λ q. e (on ∙ q)), k, on)
+-- what a leaf's answer says of the walk
+module _ {r x : LeafBest} (said : r ≡ x) where
+  pub best-broken : {f : Fault} → r ≡ LeafBest.Bad f → seenBest x ≡ broken f
+  best-broken e = ap seenBest (sym said ∙ e)
+
+  pub best-stop : {b : Best} {l : Bool} → r ≡ LeafBest.Ok b l → l ≡ true → seenBest x ≡ stop b
+  best-stop e t = ap seenBest (sym said ∙ e) ∙ rw t
+
+  pub best-go : {b : Best} {l : Bool} → r ≡ LeafBest.Ok b l → l ≡ false → seenBest x ≡ go b
+  best-go e t = ap seenBest (sym said ∙ e) ∙ rw t
+
+module _ {r x : LeafTest} (said : r ≡ x) where
+  pub test-broken : {f : Fault} → r ≡ LeafTest.Bad f → seenTest x ≡ broken f
+  test-broken e = ap seenTest (sym said ∙ e)
+
+  pub test-stop : {b l : Bool} → r ≡ LeafTest.Ok b l → l ≡ true → seenTest x ≡ stop b
+  test-stop e t = ap seenTest (sym said ∙ e) ∙ rw t
+
+  pub test-go : {b l : Bool} → r ≡ LeafTest.Ok b l → l ≡ false → seenTest x ≡ go b
+  test-go e t = ap seenTest (sym said ∙ e) ∙ rw t

@@ -18,33 +18,60 @@ use Rattle.leaf.specs.declared.find.LeafTest.{LeafTest}
 use Rattle.tree.specs.declared.ChainBest.{ChainBest}
 use Rattle.tree.specs.declared.ChainTest.{ChainTest}
 
--- what a leaf says of going on
-abbrev pub onBest : (Best → ChainBest) → LeafBest → ChainBest
-onBest more (LeafBest.Ok b true) = ChainBest.Ok b
-onBest more (LeafBest.Ok b false) = more b
-onBest more (LeafBest.Bad f) = ChainBest.Bad f
+-- what one leaf says: the walk ends here, or it goes on; or the leaf's fault
+pub data Seen (A : Type 0) : Type 0 where
+  stop : A → Seen A
+  go : A → Seen A
+  broken : Fault → Seen A
 
--- "Lookup": the best version along the chain from page p, m pages left to meet
-unfoldable pub bestAlong : (ℕ → ℕ) → List ℕ → ℕ → Current → (used key m : ℕ) → Best → (p : ℕ) → List ℕ → ChainBest
-bestAlong st active xmax cur used key zero best p s = ChainBest.Bad (structural p)
-bestAlong st active xmax cur used key (suc m) best p s =
+-- what the walk says: what was gathered, or the first fault
+pub data Told (A : Type 0) : Type 0 where
+  ok : A → Told A
+  ill : Fault → Told A
+
+abbrev pub onSeen : {A B : Type 0} → (A → B) → (A → B) → (Fault → B) → Seen A → B
+onSeen last more bad (stop a) = last a
+onSeen last more bad (go a) = more a
+onSeen last more bad (broken f) = bad f
+
+-- from page p, m pages left to meet; a says what was gathered so far
+unfoldable pub along : {A : Type 0} → (A → ℕ → List ℕ → Seen A) → (used m : ℕ) → A → ℕ → List ℕ → Told A
+along look used zero a p s = ill (structural p)
+along look used (suc m) a p s =
     pick (ltb p used)
-    (onBest
-    (λ b. pick (eqb (nextLeaf (page p s)) 0) (ChainBest.Ok b) (bestAlong st active xmax cur used key m b (nextLeaf (page p s)) s))
-    (findLeaf st active xmax cur p key best (page p s)))
-    (ChainBest.Bad (structural p))
+    (onSeen (λ b. ok b) (λ b. pick (eqb (nextLeaf (page p s)) 0) (ok b) (along look used m b (nextLeaf (page p s)) s)) (λ f. ill f) (look a p (page p s)))
+    (ill (structural p))
 
--- "Conflict": whether some version of the key along the chain meets the test
-abbrev pub onTest : (Bool → ChainTest) → LeafTest → ChainTest
-onTest more (LeafTest.Ok b true) = ChainTest.Ok b
-onTest more (LeafTest.Ok b false) = more b
-onTest more (LeafTest.Bad f) = ChainTest.Bad f
+-- ---- lookup: the newest visible version of the key
 
-unfoldable pub testAlong : Bool → (ℕ → ℕ) → List ℕ → ℕ → Current → (used seen key m : ℕ) → Bool → (p : ℕ) → List ℕ → ChainTest
-testAlong claiming st active xmax cur used seen key zero found p s = ChainTest.Bad (structural p)
-testAlong claiming st active xmax cur used seen key (suc m) found p s =
-    pick (ltb p used)
-    (onTest
-    (λ b. pick (eqb (nextLeaf (page p s)) 0) (ChainTest.Ok b) (testAlong claiming st active xmax cur used seen key m b (nextLeaf (page p s)) s))
-    (testLeaf claiming st active xmax cur p seen key found (page p s)))
-    (ChainTest.Bad (structural p))
+abbrev pub seenBest : LeafBest → Seen Best
+seenBest (LeafBest.Ok b true) = stop b
+seenBest (LeafBest.Ok b false) = go b
+seenBest (LeafBest.Bad f) = broken f
+
+abbrev pub toldBest : Told Best → ChainBest
+toldBest (ok b) = ChainBest.Ok b
+toldBest (ill f) = ChainBest.Bad f
+
+abbrev pub lookBest : (ℕ → ℕ) → List ℕ → ℕ → Current → (key : ℕ) → Best → ℕ → List ℕ → Seen Best
+lookBest st active xmax cur key best p pg = seenBest (findLeaf st active xmax cur p key best pg)
+
+unfoldable pub bestAlong : (ℕ → ℕ) → List ℕ → ℕ → Current → (used key p : ℕ) → List ℕ → ChainBest
+bestAlong st active xmax cur used key p s = toldBest (along (lookBest st active xmax cur key) used used Best.Nothing p s)
+
+-- ---- conflict: whether some version of the key meets the test
+
+abbrev pub seenTest : LeafTest → Seen Bool
+seenTest (LeafTest.Ok b true) = stop b
+seenTest (LeafTest.Ok b false) = go b
+seenTest (LeafTest.Bad f) = broken f
+
+abbrev pub toldTest : Told Bool → ChainTest
+toldTest (ok b) = ChainTest.Ok b
+toldTest (ill f) = ChainTest.Bad f
+
+abbrev pub lookTest : Bool → (ℕ → ℕ) → List ℕ → ℕ → Current → (seen key : ℕ) → Bool → ℕ → List ℕ → Seen Bool
+lookTest claiming st active xmax cur seen key found p pg = seenTest (testLeaf claiming st active xmax cur p seen key found pg)
+
+unfoldable pub testAlong : Bool → (ℕ → ℕ) → List ℕ → ℕ → Current → (used seen key p : ℕ) → List ℕ → ChainTest
+testAlong claiming st active xmax cur used seen key p s = toldTest (along (lookTest claiming st active xmax cur seen key) used used false p s)

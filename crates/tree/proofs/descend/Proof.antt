@@ -7,13 +7,6 @@ use mathlib.Core.Path.{_≡_, refl, _∙_}
 use borrow.Author.Needs.{needs}
 use Rattle.tree.proofs.descend.Statement.{statement}
 use Rattle.tree.proofs.descend.Tie as tie
-use Rattle.tree.proofs.descend.Reads as reads
-use Rattle.tree.proofs.descend.Lts as lts
-use Rattle.inner.proofs.judge_inner.Reads as judge-inner-reads
-use Rattle.leaf.proofs.structural_fault.Reads as structural-fault-reads
-use Rattle.page.proofs.get_node_type.Reads as get-node-type-reads
-use Rattle.page.proofs.pool.page_of.Reads as page-of-reads
-use Rattle.tree.proofs.next_child.Reads as next-child-reads
 
 abbrev Inv-loop : tie.InvT-loop
 Inv-loop pool used root route p₀ below₀ p below = (below ≤ 3) × (descendOf below route used p pool ≡ descendOf 3 route used root pool)

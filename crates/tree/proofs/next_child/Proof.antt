@@ -4,12 +4,6 @@ use native.Mathlib.Omega.{arith}
 use borrow.Author.Needs.{needs}
 use Rattle.tree.proofs.next_child.Statement.{statement}
 use Rattle.tree.proofs.next_child.Tie as tie
-use Rattle.tree.proofs.next_child.Reads as reads
-use Rattle.tree.proofs.next_child.Lts as lts
-use Rattle.inner.proofs.child_at.Reads as child-at-reads
-use Rattle.inner.proofs.insert_route.Reads as insert-route-reads
-use Rattle.inner.proofs.search_route.Reads as search-route-reads
-use Rattle.page.proofs.pool.page_of.Reads as page-of-reads
 
 page-of-requires : tie.Need-page-of-requires
 page-of-requires c κs = search needs

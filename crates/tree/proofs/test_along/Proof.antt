@@ -1,0 +1,91 @@
+use Rattle.tree.proofs.Ways.{along-again, along-unused, along-bad, along-last, along-end, along-on, test-broken, test-stop, test-go}
+use Rattle.tree.specs.Chain.{along, lookTest, toldTest, testAlong}
+use mathlib.Core.Bool.{false}
+use Rattle.mvcc.specs.Lists.{lookup}
+use mathlib.Core.Path.{_≡_, refl, ap, _∙_}
+-- `tree::test_along` meets its contract: what is left of the walk gives what the whole walk gives. Assumes nothing.
+use borrow.Author.Needs.{needs}
+use Rattle.tree.proofs.test_along.Statement.{statement}
+use Rattle.tree.proofs.test_along.Tie as tie
+
+abbrev Inv-loop : tie.InvT-loop
+Inv-loop pool claiming ids states active xmax cur used seen key first p₀ found₀ left₀ p found left = along (lookTest claiming (lookup ids states) active xmax cur seen key) used left found p pool ≡ along (lookTest claiming (lookup ids states) active xmax cur seen key) used used false first pool
+
+abbrev μ-loop : tie.MeasureT-loop
+μ-loop pool claiming ids states active xmax cur used seen key first p₀ found₀ left₀ p found left = left
+
+loop-holds : tie.Need-loop-holds Inv-loop μ-loop
+loop-holds c = refl
+
+structural-fault-requires : tie.Need-structural-fault-requires Inv-loop μ-loop
+structural-fault-requires c κs = search needs
+
+returns : tie.Need-returns Inv-loop μ-loop
+unfolding testAlong
+returns c = ap toldTest (along-unused _ _ _ _ _ _ (search needs) (search needs) (c .structural-fault .ensures) ∙ c .before .before .before .loop .inv)
+
+page-of-requires : tie.Need-page-of-requires Inv-loop μ-loop
+page-of-requires c κs = search needs
+
+test-leaf-requires : tie.Need-test-leaf-requires Inv-loop μ-loop
+test-leaf-requires c κs = search needs
+
+enum-known-f : tie.Need-enum-known-f Inv-loop μ-loop
+enum-known-f c = search needs
+
+returns-2 : tie.Need-returns-2 Inv-loop μ-loop
+unfolding testAlong
+returns-2 c = ap toldTest (along-bad _ _ _ _ _ (search needs) (c .before .before .before .before .page-of .ensures .0) _ (search needs) (test-broken (c .before .before .before .test-leaf .ensures) (c .before .f .given .1)) ∙ c .before .before .before .before .before .before .before .loop .inv)
+
+enum-known-b : tie.Need-enum-known-b Inv-loop μ-loop
+enum-known-b c = search needs
+
+get-next-leaf-requires : tie.Need-get-next-leaf-requires Inv-loop μ-loop
+get-next-leaf-requires c κs = search needs
+
+returns-3 : tie.Need-returns-3 Inv-loop μ-loop
+unfolding testAlong
+returns-3 c = ap toldTest (along-last _ _ _ _ _ (search needs) (c .before .before .before .before .before .before .page-of .ensures .0) _ (search needs) (test-stop (c .before .before .before .before .before .test-leaf .ensures) (c .before .before .before .b .given .1) (search needs)) ∙ c .before .before .before .before .before .before .before .before .before .loop .inv)
+
+returns-4 : tie.Need-returns-4 Inv-loop μ-loop
+unfolding testAlong
+returns-4 c = ap toldTest (along-end _ _ _ _ _ (search needs) (c .before .before .before .before .before .before .before .page-of .ensures .0) _ (search needs) (test-go (c .before .before .before .before .before .before .test-leaf .ensures) (c .before .before .before .before .b .given .1) (search needs)) (c .before .before .get-next-leaf .ensures) (search needs) ∙ c .before .before .before .before .before .before .before .before .before .before .loop .inv)
+
+sub-left : tie.Need-sub-left Inv-loop μ-loop
+sub-left c = search needs
+
+loop-less : tie.Need-loop-less Inv-loop μ-loop
+loop-less c = search needs
+
+loop-again : tie.Need-loop-again Inv-loop μ-loop
+loop-again c = along-on _ _ _ _ _ (search needs) (c .before .before .before .before .before .before .before .page-of .ensures .0) _ (search needs) (test-go (c .before .before .before .before .before .before .test-leaf .ensures) (c .before .before .before .before .b .given .1) (search needs)) (c .before .before .get-next-leaf .ensures) (search needs) ∙ c .before .before .before .before .before .before .before .before .before .before .loop .inv
+
+structural-fault-requires-2 : tie.Need-structural-fault-requires-2 Inv-loop μ-loop
+structural-fault-requires-2 c κs = search needs
+
+returns-5 : tie.Need-returns-5 Inv-loop μ-loop
+unfolding testAlong
+returns-5 c = ap toldTest (along-again _ _ _ _ _ _ (search needs) (c .structural-fault2 .ensures) ∙ c .before .before .loop .inv)
+
+pub test-along-spec : {M : Type 1} → statement M
+test-along-spec =
+    tie.close
+    (tie.spec
+    Inv-loop
+    μ-loop
+    loop-holds
+    structural-fault-requires
+    returns
+    page-of-requires
+    test-leaf-requires
+    enum-known-f
+    returns-2
+    enum-known-b
+    get-next-leaf-requires
+    returns-3
+    returns-4
+    sub-left
+    loop-less
+    loop-again
+    structural-fault-requires-2
+    returns-5)
