@@ -1,7 +1,7 @@
 -- The theorems of specs/Facts.antt: what the edits make, read as lists of keys and children, is what section 5 says.
 -- Assumes nothing.
 use mathlib.Core.Path.{_≡_, refl, sym, ap, _∙_}
-use mathlib.Core.List.{List, [], _∷_, _++_, append-nil}
+use mathlib.Core.List.{List, [], _++_, append-nil}
 use Prim.Native.Nat.{ℕ, _+_, _-_, _*_, _≤_, _<_}
 use native.Mathlib.Nat.{zero-add}
 use native.Mathlib.Omega.{arith}
@@ -18,7 +18,7 @@ use Rattle.page.proofs.KeyLaws.{flip-flip, flip-less}
 use Rattle.inner.specs.Inner.{keyAt, childAt, keysFrom, keysOf, childrenFrom, childrenOf}
 use Rattle.inner.specs.Route.{firstWhere}
 use Rattle.inner.specs.Edit.{entered, withEntry, leftHalf, middleKey, rightHalf, topOf}
-use Rattle.inner.specs.Facts.{insertAt, IsPage, EntryEnters, HalvesDivide, TopHasTwo, EqualParts}
+use Rattle.inner.specs.Facts.{insertAt, EntryEnters, HalvesDivide, TopHasTwo, EqualParts}
 use Rattle.inner.proofs.Editing.{length-entered, entered-before, entered-pair, entered-after}
 use Rattle.inner.proofs.Dividing.{length-left, length-right}
 use Rattle.inner.proofs.Lists.{keys-read, children-read, read-ext, read-take, read-drop, read-at, read-insert}
@@ -155,26 +155,19 @@ middle-at : (n i sep child : ℕ) (pg : List ℕ) → 255 < n → middleKey i se
 unfolding middleKey keyAt
 middle-at n i sep child pg h = rw (keys-read n 0 (entered i sep child pg)) (sym (read-at (keyAt (entered i sep child pg)) n 255 0 h))
 
-halves : (pg fresh : List ℕ) (i sep child : ℕ) → IsPage pg → length fresh ≡ 4096 → sep < 4294967296 → child < 4294967296 → i ≤ 510 → cellCount pg ≡ 510
-    → (keysOf (leftHalf i sep child pg) ≡ take 255 (insertAt i sep (keysOf pg)))
-    × (middleKey i sep child pg ≡ getD (insertAt i sep (keysOf pg)) 255 0)
-    × (keysOf (rightHalf i sep child pg fresh) ≡ drop 256 (insertAt i sep (keysOf pg)))
-    × (childrenOf (leftHalf i sep child pg) ≡ take 256 (insertAt (i + 1) child (childrenOf pg)))
-    × (childrenOf (rightHalf i sep child pg fresh) ≡ drop 256 (insertAt (i + 1) child (childrenOf pg)))
-halves pg fresh i sep child is new s c h full =
+pub halves-divide : HalvesDivide
+halves-divide pg i sep child is s c h full =
     let v = entered i sep child pg in
     let n = cellCount pg + 1 in
+    let new : length (zeros 4096) ≡ 4096 = length-replicate {A = ℕ} 4096 0 in
     let keys = entered-keys i sep child pg (is .1) (omega arith) (omega arith) s in
     let children = entered-children i sep child pg (is .1) (omega arith) (omega arith) c in (
-      left-keys i sep child pg fresh (is .1) full h new ∙ keys-take n 255 256 v (omega arith) ∙ ap (take 255) keys,
+      left-keys i sep child pg (zeros 4096) (is .1) full h new ∙ keys-take n 255 256 v (omega arith) ∙ ap (take 255) keys,
       middle-at n i sep child pg (omega arith) ∙ ap (λ (l : List ℕ). getD l 255 0) keys,
-      right-keys i sep child pg fresh (is .1) full h new ∙ keys-drop n 256 255 v (omega arith) ∙ ap (drop 256) keys,
-      left-children i sep child pg fresh (is .1) full h new ∙ children-take (n + 1) 256 256 v (omega arith) ∙ ap (take 256) children,
-      right-children i sep child pg fresh (is .1) full h new ∙ children-drop (n + 1) 256 256 v (omega arith) ∙ ap (drop 256) children,
+      right-keys i sep child pg (zeros 4096) (is .1) full h new ∙ keys-drop n 256 255 v (omega arith) ∙ ap (drop 256) keys,
+      left-children i sep child pg (zeros 4096) (is .1) full h new ∙ children-take (n + 1) 256 256 v (omega arith) ∙ ap (take 256) children,
+      right-children i sep child pg (zeros 4096) (is .1) full h new ∙ children-drop (n + 1) 256 256 v (omega arith) ∙ ap (drop 256) children,
     )
-
-pub halves-divide : HalvesDivide
-halves-divide pg i sep child is = halves pg (zeros 4096) i sep child is (length-replicate {A = ℕ} 4096 0)
 
 -- ---- the new top
 
@@ -216,13 +209,12 @@ module _ (left sep right : ℕ) (z : List ℕ) (len : length z ≡ 4096) where
   unfolding topOf childAt
   top-right r = leAt-putAt 4 with-sep 20 right (omega (arith, length-sep)) r
 
-  top-lists : left < 4294967296 → sep < 4294967296 → right < 4294967296
-      → (keysOf (topOf left sep right z) ≡ sep ∷ []) × (childrenOf (topOf left sep right z) ≡ left ∷ right ∷ [])
-  unfolding keysFrom childrenFrom
-  top-lists l s r = (rw (top-count, top-key s), rw (top-count, top-left l, top-right r))
-
 pub top-has-two : TopHasTwo
-top-has-two left sep right = top-lists left sep right (zeros 4096) (length-replicate {A = ℕ} 4096 0)
+unfolding keysFrom childrenFrom
+top-has-two left sep right l s r =
+    let z = zeros 4096 in
+    let len : length (zeros 4096) ≡ 4096 = length-replicate {A = ℕ} 4096 0 in
+    (rw (top-count left sep right z len, top-key left sep right z len s), rw (top-count left sep right z len, top-left left sep right z len l, top-right left sep right z len r))
 
 -- ---- routes
 
