@@ -1,24 +1,24 @@
--- Laws of the division: the middle key, the bytes that go right in each of three places of the pair, those that stay, and
--- the two pages that they make. Assumes nothing.
+-- Laws of the division: the middle key, the bytes that stay and those that go right, for each of three places of the pair,
+-- and the two pages that they make. Assumes nothing.
 use mathlib.Core.Path.{_≡_, refl, ap, sym, _∙_}
 use mathlib.Core.List.{List, _++_, append-assoc}
 use Prim.Native.Nat.{ℕ, _+_, _-_, _*_, _≤_, _<_}
 use native.Mathlib.Omega.{arith}
-use lib.ListN.{length, length-append, length-replicate}
+use lib.ListN.{length, length-append}
 use Rattle.store.specs.Le.{bytesLE, putAt}
-use Rattle.store.specs.Part.{part, splice, put, pad}
+use Rattle.store.specs.Part.{part, put, pad}
 use Rattle.store.proofs.LeLaws.{length-bytesLE, length-putAt}
-use Rattle.store.proofs.PartLaws.{length-part, part-part, part-add, part-peel, leAt-first, part-around, length-splice, splice-splice, splice-within}
-use Rattle.store.proofs.PutLaws.{putAt-put, put-after-at, put-splice, part-put, part-put-below}
-use Rattle.store.proofs.SeamLaws.{put-part, leAt-same}
+use Rattle.store.proofs.PartLaws.{length-part, part-add, part-peel, leAt-first, leAt-same}
+use Rattle.store.proofs.PutLaws.{putAt-put, put-part, put-after-at, length-put, part-put, part-put-below, part-thru}
+use Rattle.store.proofs.SeamLaws.{length-pad}
 use Rattle.page.specs.Page.{page, setPage}
 use Rattle.page.specs.Header.{cellCount, withCount}
 use Rattle.page.specs.Key.{flip, keyBytes}
 use Rattle.page.proofs.KeyLaws.{flip-flip, flip-less}
-use Rattle.page.proofs.PageLaws.{length-page, page-setPage-other}
+use Rattle.page.proofs.PageLaws.{length-page, page-setPage, page-setPage-other, setPage-setPage, part-page, put-page}
 use Rattle.inner.specs.Inner.{keyAt}
 use Rattle.inner.specs.Edit.{pairBytes, entered, leftHalf, middleKey, rightHalf}
-use Rattle.inner.proofs.Editing.{length-pair, part-thru, length-entered, entered-before, entered-pair, entered-after}
+use Rattle.inner.proofs.Editing.{length-pair, length-entered, entered-before, entered-pair, entered-after}
 
 -- ---- a page with 510 keys and a pair entered
 
@@ -29,8 +29,8 @@ module _ (i sep child : ℕ) (pg : List ℕ) (len : length pg ≡ 4096) (full : 
   in₁ : i ≤ cellCount pg
   in₁ = omega arith
 
-  length-all : length (entered i sep child pg) ≡ 4104
-  length-all = length-entered i sep child pg len few in₁ ∙ rw full
+  all : length (entered i sep child pg) ≡ 4104
+  all = length-entered i sep child pg len few in₁ ∙ rw full
 
   before : (b n : ℕ) → b + n ≤ 16 + 8 * i → part b n (entered i sep child pg) ≡ part b n pg
   before = entered-before i sep child pg len few in₁
@@ -56,7 +56,10 @@ module _ (i sep child : ℕ) (pg : List ℕ) (len : length pg ≡ 4096) (full : 
   unfolding keyAt middleKey
   middle-high h = ap flip (sym (leAt-same 4 2056 2056 (entered i sep child pg) pg (before 2056 4 (omega arith))))
 
-  -- ---- bytes 2060 to 4104
+  -- ---- bytes 2060 to 4104 go right
+
+  pub length-right : length (part 2060 2044 (entered i sep child pg)) ≡ 2044
+  length-right = length-part 2060 2044 (entered i sep child pg) (omega (arith, all))
 
   right-low : i < 255 → part 2060 2044 (entered i sep child pg) ≡ part 2052 2044 pg
   right-low h = after 2052 2060 2044 (omega arith) (omega arith) (omega arith)
@@ -80,7 +83,10 @@ module _ (i sep child : ℕ) (pg : List ℕ) (len : length pg ≡ 4096) (full : 
         after (2060 + k) (2060 + k + 8) (2036 - k) refl (omega arith) (omega arith),
       )
 
-  -- ---- bytes 0 to 2056
+  -- ---- bytes 0 to 2056 stay
+
+  pub length-left : length (part 0 2056 (entered i sep child pg)) ≡ 2056
+  length-left = length-part 0 2056 (entered i sep child pg) (omega (arith, all))
 
   pub keep-done : i < 255 → put (16 + 8 * i) (pairBytes sep child ++ part (16 + 8 * i) (2048 - (16 + 8 * i)) pg) pg ≡ put 0 (part 0 2056 (entered i sep child pg)) pg
   keep-done h =
@@ -106,16 +112,9 @@ module _ (i sep child : ℕ) (pg : List ℕ) (len : length pg ≡ 4096) (full : 
 
   pub left-done : {s₁ s₂ : List ℕ} → s₁ ≡ put 0 (part 0 2056 (entered i sep child pg)) pg → s₂ ≡ withCount 255 (pad 4096 (part 0 2056 s₁)) → s₂ ≡ leftHalf i sep child pg
   unfolding leftHalf
-  left-done p q =
-      let l : length (part 0 2056 (entered i sep child pg)) ≡ 2056 = length-part 0 2056 (entered i sep child pg) (rw length-all (omega arith)) in
-      q ∙ rw (p, rw l at (part-put 0 (part 0 2056 (entered i sep child pg)) pg (omega arith)))
+  left-done p q = q ∙ rw (p, rw length-left at (part-put 0 (part 0 2056 (entered i sep child pg)) pg (omega arith)))
 
 -- ---- from page p to page q of a pool
-
--- a part of a page is a part of the pool
-part-of-page : (p b n : ℕ) (s : List ℕ) → b + n ≤ 4096 → part b n (page p s) ≡ part (p * 4096 + b) n s
-unfolding page
-part-of-page p b n s h = part-part (p * 4096) 4096 b n s h
 
 module _ (p q i sep child : ℕ) (s : List ℕ) (less : p < q) (fits : q * 4096 + 4096 ≤ length s) (in₀ : i ≤ 510) (full : cellCount (page p s) ≡ 510) where
   len-p : length (page p s) ≡ 4096
@@ -129,10 +128,10 @@ module _ (p q i sep child : ℕ) (s : List ℕ) (less : p < q) (fits : q * 4096 
   carried = part 2060 2044 (entered i sep child (page p s))
 
   length-carried : length carried ≡ 2044
-  length-carried = length-part 2060 2044 (entered i sep child (page p s)) (rw (length-all i sep child (page p s) len-p full in₀) (omega arith))
+  length-carried = length-right i sep child (page p s) len-p full in₀
 
   pub carry-low : i < 255 → put (q * 4096 + 12) (part (p * 4096 + 2052) 2044 s) s ≡ put (q * 4096 + 12) carried s
-  carry-low h = rw (right-low i sep child (page p s) len-p full in₀ h, part-of-page p 2052 2044 s (omega arith))
+  carry-low h = rw (right-low i sep child (page p s) len-p full in₀ h, part-page p 2052 2044 s (omega arith))
 
   pub carry-here : {s₁ s₂ : List ℕ} → i ≡ 255 → s₁ ≡ putAt 4 s (q * 4096 + 12) child → s₂ ≡ put (q * 4096 + 12 + 4) (part (p * 4096 + 2056) 2040 s₁) s₁
       → s₂ ≡ put (q * 4096 + 12) carried s
@@ -147,7 +146,7 @@ module _ (p q i sep child : ℕ) (s : List ℕ) (less : p < q) (fits : q * 4096 
         part-put-below to x s (omega arith) (p * 4096 + 2056) 2040 (omega arith),
         put-after-at to (to + 4) x (part (p * 4096 + 2056) 2040 s) s (omega arith) l,
         right-here i sep child (page p s) len-p full in₀ h,
-        part-of-page p 2056 2040 s (omega arith),
+        part-page p 2056 2040 s (omega arith),
       )
 
   pub carry-high : {s₁ s₂ s₃ : List ℕ} (k : ℕ) → 255 < i → k ≡ 8 * (i - 256) + 4 → s₁ ≡ put (q * 4096 + 12) (part (p * 4096 + 2060) k s) s
@@ -161,7 +160,7 @@ module _ (p q i sep child : ℕ) (s : List ℕ) (less : p < q) (fits : q * 4096 
       let lab : length (A ++ B) ≡ k + 8 = rw (length-append, la, length-pair) in
       let x : to + k ≡ to + length A = rw la in
       let y : to + k + 8 ≡ to + length (A ++ B) = rw lab (omega arith) in
-      let z : p * 4096 + (2060 + k) ≡ p * 4096 + 2060 + k = omega arith in
+      let z : p * 4096 + 2060 + k ≡ p * 4096 + (2060 + k) = omega arith in
       g
       ∙ rw (
         f,
@@ -170,48 +169,33 @@ module _ (p q i sep child : ℕ) (s : List ℕ) (less : p < q) (fits : q * 4096 
         part-put-below to (A ++ B) s (omega arith) (p * 4096 + 2060 + k) (2036 - k) (omega arith),
         put-after-at to (to + k + 8) (A ++ B) (part (p * 4096 + 2060 + k) (2036 - k) s) s (omega arith) y,
         right-high i sep child (page p s) len-p full in₀ k (omega arith) (omega arith),
-        part-of-page p 2060 k s (omega arith),
-        part-of-page p (2060 + k) (2036 - k) s (omega arith),
         z,
+        part-page p 2060 k s (omega arith),
+        part-page p (2060 + k) (2036 - k) s (omega arith),
       )
       (simp append-assoc)
 
   -- ---- the two pages
 
-  -- the bytes that were carried, seen in page q
-  right-page : page q (put (q * 4096 + 12) carried s) ≡ put 12 carried (page q s)
-  unfolding page
-  right-page =
-      rw (
-        put-splice (q * 4096 + 12) 2044 carried s length-carried,
-        put-splice 12 2044 carried (part (q * 4096) 4096 s) length-carried,
-        part-around (q * 4096) 4096 12 2044 carried s fits (omega arith) length-carried,
-      )
-
-  -- and written over with it
-  right-over : (y : List ℕ) → setPage q y (put (q * 4096 + 12) carried s) ≡ setPage q y s
-  unfolding setPage
-  right-over y =
-      let x = splice 12 2044 carried (part (q * 4096) 4096 s) in
-      let l : length x ≡ 4096 = length-splice 12 2044 carried (part (q * 4096) 4096 s) (rw (length-part (q * 4096) 4096 s fits) (omega arith)) length-carried ∙ length-part (q * 4096) 4096 s fits in
-      rw (put-splice (q * 4096 + 12) 2044 carried s length-carried, ← splice-within (q * 4096) 4096 12 2044 carried s fits (omega arith) length-carried, splice-splice (q * 4096) 4096 x y s fits l)
-
   pub right-done : {s₁ y : List ℕ} → s₁ ≡ put (q * 4096 + 12) carried s → y ≡ withCount 255 (pad 4096 (part 0 2056 (page q s₁)))
       → setPage q y s₁ ≡ setPage q (rightHalf i sep child (page p s) (page q s)) s
   unfolding rightHalf
-  right-done e f =
+  right-done {s₁} {y} e f =
+      let x = put 12 carried (page q s) in
+      let lx : length x ≡ 4096 = length-put 12 carried (page q s) (omega (arith, length-carried, len-q)) ∙ len-q in
+      let is : s₁ ≡ setPage q x s = e ∙ put-page q 12 carried s fits (omega (arith, length-carried)) in
       let l : 2056 ≡ 12 + length carried = rw length-carried in
-      rw (f, e, right-over, right-page, part-thru 12 2056 carried (page q s) (omega (arith, len-q)) l)
+      rw (f, is, page-setPage q x s fits lx, setPage-setPage q x _ s fits lx, part-thru 12 carried (page q s) (omega (arith, len-q)) 2056 l)
 
-  length-right : length (rightHalf i sep child (page p s) (page q s)) ≡ 4096
-  unfolding rightHalf pad
-  length-right =
-      let x = part 0 12 (page q s) ++ carried in
-      let l : length x ≡ 2056 = rw (length-append, length-part 0 12 (page q s) (omega (arith, len-q)), length-carried) in
-      rw (length-putAt, length-append, length-replicate, l)
+  length-half : length (rightHalf i sep child (page p s) (page q s)) ≡ 4096
+  unfolding rightHalf
+  length-half =
+      let l : length (part 0 12 (page q s) ++ carried) ≡ 2056 = rw (length-append, length-part 0 12 (page q s) (omega (arith, len-q)), length-carried) in
+      rw length-putAt (length-pad 4096 (part 0 12 (page q s) ++ carried) (omega arith))
 
+  -- the right half leaves page p as it was
   pub right-beside : page p (setPage q (rightHalf i sep child (page p s) (page q s)) s) ≡ page p s
-  right-beside = page-setPage-other q (rightHalf i sep child (page p s) (page q s)) s fits length-right p (λ e. omega arith)
+  right-beside = page-setPage-other q (rightHalf i sep child (page p s) (page q s)) s fits length-half p (λ e. omega arith)
 
   pub divide-done : {s₁ y : List ℕ} → s₁ ≡ setPage q (rightHalf i sep child (page p s) (page q s)) s → y ≡ leftHalf i sep child (page p s₁)
       → setPage p y s₁ ≡ setPage p (leftHalf i sep child (page p s)) (setPage q (rightHalf i sep child (page p s) (page q s)) s)

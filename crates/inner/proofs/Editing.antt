@@ -4,13 +4,13 @@ use mathlib.Core.Path.{_≡_, _∙_}
 use mathlib.Core.List.{List, _++_}
 use Prim.Native.Nat.{ℕ, suc, _+_, _-_, _*_, _≤_, _<_}
 use native.Mathlib.Omega.{arith}
-use lib.ListN.{length, length-append, length-replicate}
+use lib.ListN.{length, length-append}
 use Rattle.store.specs.Le.{putAt}
 use Rattle.store.specs.Part.{part, put, zeros, pad, spliced}
 use Rattle.store.proofs.LeLaws.{length-bytesLE}
-use Rattle.store.proofs.PartLaws.{length-part, part-add}
-use Rattle.store.proofs.PutLaws.{putAt-put, put-field, put-before, put-end, part-put, part-put-below, length-spliced}
-use Rattle.store.proofs.SeamLaws.{spliced-before, spliced-new, spliced-after}
+use Rattle.store.proofs.PartLaws.{length-part}
+use Rattle.store.proofs.PutLaws.{putAt-put, put-field, put-before, part-thru, length-spliced}
+use Rattle.store.proofs.SeamLaws.{spliced-before, spliced-new, spliced-after, put-zeros}
 use Rattle.page.specs.Page.{page, setPage}
 use Rattle.page.specs.Header.{cellCount, withCount, withParent}
 use Rattle.page.specs.Key.{flip, keyBytes}
@@ -35,7 +35,8 @@ module _ (i sep child : ℕ) (pg : List ℕ) (len : length pg ≡ 4096) (few : c
 
   pub entered-pair : (k : ℕ) → k ≡ 16 + 8 * i → part k 8 (entered i sep child pg) ≡ pairBytes sep child
   unfolding entered
-  entered-pair k e = spliced-new (16 + 8 * i) (16 + 8 * i) (16 + 8 * cellCount pg) (pairBytes sep child) pg (omega arith) (omega arith) (omega arith) k 8 e (length-pair sep child)
+  entered-pair k e =
+      spliced-new (16 + 8 * i) (16 + 8 * i) (16 + 8 * cellCount pg) (pairBytes sep child) pg (omega arith) (omega arith) (omega arith) k 8 e (length-pair sep child)
 
   -- what stood at j stands at k
   pub entered-after : (j k n : ℕ) → k ≡ j + 8 → 16 + 8 * i ≤ j → j + n ≤ 16 + 8 * cellCount pg → part k n (entered i sep child pg) ≡ part j n pg
@@ -57,22 +58,9 @@ open-done s a e sep child h l p q =
     let f : a + 8 ≡ a + length (pairBytes sep child) = rw length-pair in
     q ∙ rw (p, f) (put-before a (pairBytes sep child) (part a (e - a) s) s (rw length-pair (omega arith)))
 
-pad-zeros : (s : List ℕ) (n : ℕ) → length s ≡ 4096 → n ≤ 4096 → put n (zeros (4096 - n)) s ≡ pad 4096 (part 0 n s)
-unfolding pad
-pad-zeros s n len h =
-    let l : length (part 0 n s) ≡ n = length-part 0 n s (omega arith) in
-    let e : n + length (zeros (4096 - n)) ≡ length s = rw length-replicate (omega arith) in
-    put-end n (zeros (4096 - n)) s (omega arith) e ∙ rw l
-
 pub finish-done : (s : List ℕ) {s₁ s₂ : List ℕ} (end count : ℕ) → length s ≡ 4096 → end ≤ 4096 → s₁ ≡ put end (zeros (4096 - end)) s → s₂ ≡ withCount count s₁
     → s₂ ≡ withCount count (pad 4096 (part 0 end s))
-finish-done s end count len h p q = q ∙ rw (p, pad-zeros s end len h)
-
--- what was put at a, with what is before it
-pub part-thru : (a m : ℕ) (x s : List ℕ) → a ≤ length s → m ≡ a + length x → part 0 m (put a x s) ≡ part 0 a s ++ x
-part-thru a m x s h e =
-    let f : 0 + a ≡ a = omega arith in
-    rw (e, part-add 0 a (length x) (put a x s), part-put-below a x s h 0 a (omega arith), f, part-put a x s h)
+finish-done s end count len h p q = q ∙ rw (p, put-zeros 4096 end s len h)
 
 pub enter-done : (s : List ℕ) {s₁ s₂ : List ℕ} (i n sep child : ℕ) → length s ≡ 4096 → n ≡ cellCount s → i ≤ n → n < 510
     → s₁ ≡ put (16 + 8 * i) (pairBytes sep child ++ part (16 + 8 * i) (16 + 8 * n - (16 + 8 * i)) s) s
@@ -83,7 +71,7 @@ enter-done s i n sep child len count h few p q =
     let T = part a (16 + 8 * n - a) s in
     let l : length T ≡ 16 + 8 * n - a = length-part a (16 + 8 * n - a) s (omega arith) in
     let e : 16 + 8 * n + 8 ≡ a + length (pairBytes sep child ++ T) = rw (length-append, length-pair, l) (omega arith) in
-    q ∙ rw (p, part-thru a (16 + 8 * n + 8) (pairBytes sep child ++ T) s (omega arith) e, ← count)
+    q ∙ rw (p, part-thru a (pairBytes sep child ++ T) s (omega arith) (16 + 8 * n + 8) e, ← count)
 
 -- ---- parent links: a turn of the loop, and its end
 

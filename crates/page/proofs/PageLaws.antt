@@ -1,5 +1,5 @@
 -- Laws of pages. Assumes nothing.
-use mathlib.Core.Path.{_≡_, sym, ap, _∙_}
+use mathlib.Core.Path.{_≡_, refl, sym, ap, _∙_}
 use mathlib.Core.List.{List}
 use mathlib.Core.Logic.{⊎-elim}
 use Prim.Native.Nat.{ℕ, _+_, _-_, _*_, _/_, _%_, _≤_, _<_}
@@ -8,8 +8,9 @@ use lib.ListN.{length, getD}
 use lib.Seq.{ext-getD}
 use borrow.Rule.Slice.PartMut.{midOf, putMid}
 use Rattle.store.specs.Le.{leAt, putAt}
+use Rattle.store.specs.Part.{part, put}
 use Rattle.page.specs.Page.{page, setPage}
-use Rattle.store.proofs.PartLaws.{lent, back, le-or-lt, length-part, leAt-part, length-splice, part-splice, part-splice-below, part-splice-above, putAt-splice, splice-splice, splice-part, getD-part}
+use Rattle.store.proofs.PartLaws.{lent, back, le-or-lt, length-part, leAt-part, length-splice, part-splice, part-splice-below, part-splice-above, putAt-splice, splice-splice, splice-part, splice-within, part-part, getD-part}
 
 -- what `&pool[a..e]` and `&mut pool[a..e]` lend, with `let a = p * 4096; let e = a + 4096;`
 pub lent-page : (p : ℕ) (s : List ℕ) → midOf (p * 4096) (p * 4096 + 4096 - p * 4096) s ≡ page p s
@@ -50,6 +51,15 @@ leAt-page w p s b h = sym (leAt-part w (p * 4096) 4096 s b h)
 pub putAt-page : (w p : ℕ) (s : List ℕ) (b x : ℕ) → p * 4096 + 4096 ≤ length s → b + w ≤ 4096 → putAt w s (p * 4096 + b) x ≡ setPage p (putAt w (page p s) b x) s
 unfolding page setPage
 putAt-page w p s b x = putAt-splice w (p * 4096) 4096 s b x
+
+-- and a part of a page
+pub part-page : (p b n : ℕ) (s : List ℕ) → b + n ≤ 4096 → part (p * 4096 + b) n s ≡ part b n (page p s)
+unfolding page
+part-page p b n s h = sym (part-part (p * 4096) 4096 b n s h)
+
+pub put-page : (p b : ℕ) (x s : List ℕ) → p * 4096 + 4096 ≤ length s → b + length x ≤ 4096 → put (p * 4096 + b) x s ≡ setPage p (put b x (page p s)) s
+unfolding page setPage put
+put-page p b x s fits h = sym (splice-within (p * 4096) 4096 b (length x) x s fits h refl)
 
 pub setPage-setPage : (p : ℕ) (x y s : List ℕ) → p * 4096 + 4096 ≤ length s → length x ≡ 4096 → setPage p y (setPage p x s) ≡ setPage p y s
 unfolding setPage

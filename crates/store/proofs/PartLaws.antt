@@ -41,6 +41,13 @@ length-part a n s h = length-take-le n (drop a s) (rw length-drop (omega arith))
 pub leAt-part : (w a n : ℕ) (s : List ℕ) (b : ℕ) → b + w ≤ n → leAt w (part a n s) b ≡ leAt w s (a + b)
 leAt-part w a n s b h = leAt-ext w (part a n s) s b (a + b) (λ k l. getD-part a n s (b + k) (omega arith) ∙ ap (λ (i : ℕ). getD s i 0) (sym (add-assoc a b k)))
 
+-- equal parts hold equal numbers
+pub leAt-same : (w a b : ℕ) (s t : List ℕ) → part a w s ≡ part b w t → leAt w s a ≡ leAt w t b
+leAt-same w a b s t e =
+    let f : a + 0 ≡ a = omega arith in
+    let g : b + 0 ≡ b = omega arith in
+    sym (rw f at (leAt-part w a w s 0 (omega arith))) ∙ rw e (rw g at (leAt-part w b w t 0 (omega arith)))
+
 set-part : (a n : ℕ) (s : List ℕ) (b v : ℕ) → b < n → set (part a n s) b v ≡ part a n (set s (a + b) v)
 unfolding part
 set-part a n s b v h = rw (drop-set-add, take-set-lt)

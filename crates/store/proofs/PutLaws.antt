@@ -12,7 +12,7 @@ use borrow.Rule.Slice.PartMut.{midOf, putMid, mid-len}
 use Rattle.store.specs.Le.{bytesLE, putAt}
 use Rattle.store.specs.Part.{part, splice, put, zeros, pad, spliced}
 use Rattle.store.proofs.LeLaws.{putAt-bytes, length-bytesLE}
-use Rattle.store.proofs.PartLaws.{length-part, part-snoc}
+use Rattle.store.proofs.PartLaws.{length-part, part-snoc, splice-part}
 
 pub put-def : (a : ℕ) (x s : List ℕ) → put a x s ≡ take a s ++ (x ++ drop (a + length x) s)
 unfolding put splice
@@ -21,6 +21,10 @@ put-def a x s = rw drop-drop
 pub put-splice : (a n : ℕ) (x s : List ℕ) → length x ≡ n → put a x s ≡ splice a n x s
 unfolding put
 put-splice a n x s e = rw e
+
+-- a part put back where it stood
+pub put-part : (a n : ℕ) (s : List ℕ) → a + n ≤ length s → put a (part a n s) s ≡ s
+put-part a n s h = put-splice a n (part a n s) s (length-part a n s h) ∙ splice-part a n s
 
 pub put-nil : (a : ℕ) (s : List ℕ) → put a [] s ≡ s
 put-nil a s = put-def a [] s ∙ rw (add-zero, take-append-drop)
@@ -154,6 +158,11 @@ module _ (a : ℕ) (x s : List ℕ) (in₀ : a ≤ length s) where
   pub part-put : part a (length x) (put a x s) ≡ x
   unfolding part
   part-put = rw drop-put (take-at x (drop (a + length x) s) (length x) refl)
+
+  -- what was stored, with what stands before it
+  pub part-thru : (m : ℕ) → m ≡ a + length x → part 0 m (put a x s) ≡ part 0 a s ++ x
+  unfolding part
+  part-thru m e = rw e take-thru
 
   -- a store that reaches the end
   pub put-end : a + length x ≡ length s → put a x s ≡ part 0 a s ++ x

@@ -1,15 +1,14 @@
--- Laws of a part across a seam: a part of `x ++ y`, and of a body with a part replaced (`spliced`), which is before, in or
--- after what is new. Assumes nothing.
-use mathlib.Core.Path.{_≡_, refl, sym, _∙_}
+-- Laws of a part across a seam: a part of `x ++ y`; of a body with a part replaced (`spliced`), which is before, in or
+-- after what is new; and of a list with zeros after it. Assumes nothing.
+use mathlib.Core.Path.{_≡_, refl, _∙_}
 use mathlib.Core.List.{List, _++_}
 use Prim.Native.Nat.{ℕ, _+_, _-_, _≤_}
 use native.Mathlib.Omega.{arith}
-use lib.ListN.{length, drop, length-drop}
+use lib.ListN.{length, drop, length-drop, length-append, length-replicate}
 use lib.Seq.{drop-append-le, take-append-le, drop-append-add, take-all}
-use Rattle.store.specs.Le.{leAt}
-use Rattle.store.specs.Part.{part, put, spliced}
-use Rattle.store.proofs.PartLaws.{length-part, leAt-part, part-part, splice-part}
-use Rattle.store.proofs.PutLaws.{put-splice}
+use Rattle.store.specs.Part.{part, put, zeros, pad, spliced}
+use Rattle.store.proofs.PartLaws.{length-part, part-part}
+use Rattle.store.proofs.PutLaws.{put-end}
 
 pub part-left : (b n : ℕ) (x y : List ℕ) → b + n ≤ length x → part b n (x ++ y) ≡ part b n x
 unfolding part
@@ -25,16 +24,7 @@ pub part-whole : (n : ℕ) (x : List ℕ) → length x ≡ n → part 0 n x ≡ 
 unfolding part
 part-whole n x e = take-all n x (omega arith)
 
--- a part put back where it stood
-pub put-part : (a n : ℕ) (s : List ℕ) → a + n ≤ length s → put a (part a n s) s ≡ s
-put-part a n s h = put-splice a n (part a n s) s (length-part a n s h) ∙ splice-part a n s
-
--- equal parts hold equal numbers
-pub leAt-same : (w a b : ℕ) (s t : List ℕ) → part a w s ≡ part b w t → leAt w s a ≡ leAt w t b
-leAt-same w a b s t e =
-    let f : a + 0 ≡ a = omega arith in
-    let g : b + 0 ≡ b = omega arith in
-    sym (rw f at (leAt-part w a w s 0 (omega arith))) ∙ (rw e (rw g at (leAt-part w b w t 0 (omega arith))))
+-- ---- a body with a part replaced
 
 module _ (a b e : ℕ) (new s : List ℕ) (in₀ : a ≤ b) (in₁ : b ≤ e) (in₂ : e ≤ length s) where
   front : length (part 0 a s) ≡ a
@@ -61,3 +51,21 @@ module _ (a b e : ℕ) (new s : List ℕ) (in₀ : a ≤ b) (in₁ : b ≤ e) (i
       part-right (length new + (j - b)) n k (part 0 a s) (new ++ part b (e - b) s) (omega (arith, front))
       ∙ part-right (j - b) n (length new + (j - b)) new (part b (e - b) s) refl
       ∙ rw g at (part-part b (e - b) (j - b) n s (omega arith))
+
+-- ---- zeros up to a length
+
+pub length-pad : (n : ℕ) (x : List ℕ) → length x ≤ n → length (pad n x) ≡ n
+unfolding pad
+length-pad n x h = rw (length-append x (zeros (n - length x)), length-replicate) (omega arith)
+
+pub part-pad : (n b m : ℕ) (x : List ℕ) → b + m ≤ length x → part b m (pad n x) ≡ part b m x
+unfolding pad
+part-pad n b m x h = part-left b m x (zeros (n - length x)) h
+
+-- zeros stored from m up to the end
+pub put-zeros : (n m : ℕ) (s : List ℕ) → length s ≡ n → m ≤ n → put m (zeros (n - m)) s ≡ pad n (part 0 m s)
+unfolding pad
+put-zeros n m s len h =
+    let l : length (part 0 m s) ≡ m = length-part 0 m s (omega arith) in
+    let e : m + length (zeros (n - m)) ≡ length s = rw length-replicate (omega arith) in
+    put-end m (zeros (n - m)) s (omega arith) e ∙ rw l

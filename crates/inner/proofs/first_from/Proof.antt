@@ -43,7 +43,7 @@ loop-again c =
     let a = c .before .before .before .before .before in
     let l = c .before .before .before .loop in
     let mid = l .lo + (l .hi - l .lo) / 2 in
-    omega (arith, first-gt (a .args .bound) (a .args .n) mid 0 mid 0 (a .args .pg .now) (omega arith) (a .pre .2) (omega arith) (rw (c .before .key-at .ensures) at (c .if1 .taken)))
+    omega (arith, first-gt (a .args .bound) (a .args .n) mid 0 mid 0 (a .args .pg .now) (omega arith) (a .pre .2) (omega arith) (omega arith))
 
 loop-less-2 : tie.Need-loop-less-2 Inv-loop μ-loop
 loop-less-2 c = search needs
@@ -53,7 +53,7 @@ loop-again-2 c =
     let a = c .before .before .before .before .before in
     let l = c .before .before .before .loop in
     let mid = l .lo + (l .hi - l .lo) / 2 in
-    omega (arith, first-le (a .args .bound) (a .args .n) mid 0 mid (a .args .pg .now) (omega arith) (omega arith) (rw (c .before .key-at .ensures) at (c .if1 .left)))
+    omega (arith, first-le (a .args .bound) (a .args .n) mid 0 mid (a .args .pg .now) (omega arith) (omega arith) (omega arith))
 
 returns : tie.Need-returns Inv-loop μ-loop
 returns c = (omega arith, omega arith)
