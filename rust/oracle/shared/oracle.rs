@@ -9,7 +9,7 @@ use crate::storage::btree::{BTree, max_row_data_size};
 use crate::storage::page::*;
 use crate::storage::pager::{PageData, Pager};
 use crate::storage::row::{Row, RowData, RowVersionRef};
-use crate::transaction::{Snapshot, TransactionStatus, TransactionTable};
+use crate::transaction::{Snapshot, TransactionStatus, TransactionTable, is_visible};
 use std::io;
 use wire::*;
 
@@ -131,6 +131,13 @@ impl Oracle {
         let result = f(&mut tree);
         self.root = tree.root_page();
         result
+    }
+
+    /// The Rust's own test of one version, in the tree or not, by the status table that is set.
+    pub fn sees(&self, v: &Version, s: &Snap) -> bool {
+        let (row, snapshot) = (to_row(v), to_snapshot(s));
+        self.pager
+            .with_transaction_table(|table| is_visible(&row, &snapshot, table))
     }
 
     /// What the Rust's catalog does for a new tree, on the next page.
