@@ -1,0 +1,37 @@
+-- What comes back from a call (document 01, section 6): a number, and what Done gives. Each answer of the code has its
+-- number and values here, and the contracts speak of these.
+use mathlib.Core.Bool.{Bool}
+use Prim.Native.Nat.{ℕ}
+use Rattle.page.specs.declared.pool.State.{State}
+use Rattle.row.specs.declared.Version.{Version}
+use Rattle.reads.specs.declared.Created.{Created}
+use Rattle.reads.specs.declared.Found.{Found}
+use Rattle.reads.specs.declared.Told.{Told}
+
+-- what Done gives, or nothing: "a refusal carries its number only"
+pub data Value (A : Type 0) : Type 0 where
+  value : A → Value A
+  nothing : Value A
+
+pub record Outcome (A : Type 0) : Type 0 where
+  pub number : ℕ
+  pub gives : Value A
+
+abbrev pub done : {A : Type 0} → A → Outcome A
+done a = record { number = 0; gives = value a }
+
+abbrev pub refused : {A : Type 0} → ℕ → Outcome A
+refused n = record { number = n; gives = nothing }
+
+-- 0 Done with the new state (create), the version (lookup), yes or no (conflict); the others by their number
+abbrev pub ofCreated : Created → Outcome State
+ofCreated (Created.Done st) = done st
+ofCreated (Created.Refused n) = refused n
+
+abbrev pub ofFound : Found → Outcome Version
+ofFound (Found.Done v) = done v
+ofFound (Found.Refused n) = refused n
+
+abbrev pub ofTold : Told → Outcome Bool
+ofTold (Told.Done b) = done b
+ofTold (Told.Refused n) = refused n

@@ -1,0 +1,5 @@
+-- What a reader of the contracts of `reads` has to believe.
+pub mod Answer
+pub mod Create
+pub mod Find
+pub mod Conflict
