@@ -1,1 +1,2 @@
 -- Laws of the reading calls.
+pub mod Calls
