@@ -4,7 +4,7 @@ use mathlib.Core.List.{List}
 use mathlib.Core.Logic.{⊎-elim}
 use Prim.Native.Nat.{ℕ, _+_, _-_, _*_, _/_, _%_, _≤_, _<_}
 use native.Mathlib.Omega.{arith}
-use lib.ListN.{length, getD}
+use lib.ListN.{length, getD, take, drop, length-take}
 use lib.Seq.{ext-getD}
 use borrow.Rule.Slice.PartMut.{midOf, putMid}
 use Rattle.store.specs.Le.{leAt, putAt}
@@ -21,6 +21,10 @@ lent-page p s = lent (p * 4096) 4096 s
 pub back-page : (p : ℕ) (s y : List ℕ) → putMid (p * 4096) (p * 4096 + 4096 - p * 4096) s y ≡ setPage p y s
 unfolding setPage
 back-page p s y = back (p * 4096) 4096 s y
+
+pub page-short : (p : ℕ) (s : List ℕ) → length (page p s) ≤ 4096
+unfolding page part
+page-short p s = omega (arith, length-take 4096 (drop (p * 4096) s))
 
 pub length-page : (p : ℕ) (s : List ℕ) → p * 4096 + 4096 ≤ length s → length (page p s) ≡ 4096
 unfolding page

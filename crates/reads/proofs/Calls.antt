@@ -1,7 +1,7 @@
 -- The ways out of the reading calls, one law each. Assumes nothing.
 use mathlib.Core.Path.{_≡_, refl, sym, ap, _∙_}
 use mathlib.Core.Bool.{Bool, true, false}
-use mathlib.Core.List.{List}
+use mathlib.Core.List.{List, []}
 use Prim.Native.Nat.{ℕ, _+_, _-_, _*_, _/_, _≤_, _<_}
 use native.Mathlib.Omega.{arith}
 use borrow.Author.Tests.{lt-ltb, le-ltb}
@@ -10,20 +10,28 @@ use borrow.Rule.Slice.PartMut.{midOf, putMid}
 use Rattle.store.specs.Pick.{pick}
 use Rattle.page.specs.Pool.{goodPool, allocated, nextPage, withFresh}
 use Rattle.page.specs.Header.{withNodeType, withIsRoot}
-use Rattle.page.proofs.PageLaws.{back-page, lent-page}
+use Rattle.page.proofs.PageLaws.{back-page, lent-page, page-short}
 use Rattle.page.specs.declared.pool.State.{State}
 use Rattle.page.specs.declared.pool.Allocated.{Allocated}
+use Rattle.page.specs.Page.{page}
+use Rattle.row.specs.declared.Version.{Version}
+use Rattle.row.specs.declared.Cell.{Cell}
 use Rattle.row.specs.declared.Fault.{Fault}
-use Rattle.mvcc.specs.Lists.{lookup, goodActive, goodStatuses}
+use Rattle.row.proofs.Exact.{cell-placed}
+use Rattle.mvcc.specs.Lists.{rising, lookup, goodActive, goodStatuses, Judged}
 use Rattle.mvcc.specs.declared.Current.{Current}
 use Rattle.tree.specs.Descend.{descendOf}
-use Rattle.tree.specs.Chain.{bestAlong}
+use Rattle.leaf.specs.declared.find.Best.{Best}
+use Rattle.tree.specs.Chain.{bestAlong, testAlong}
+use Rattle.tree.proofs.Found.{FoundIn, best-in}
 use Rattle.tree.specs.declared.Route.{Route}
 use Rattle.tree.specs.declared.Descent.{Descent}
 use Rattle.tree.specs.declared.ChainBest.{ChainBest}
+use Rattle.tree.specs.declared.ChainTest.{ChainTest}
 use Rattle.reads.specs.Answer.{Outcome, done, refused}
 use Rattle.reads.specs.Create.{rooted, createdPool, createCall, createAfter}
-use Rattle.reads.specs.Find.{plain, badTree, lookedBest, lookOf, findVisibleRun}
+use Rattle.reads.specs.Find.{plain, badTree, lookedBest, onLeaf, lookOf, findVisibleRun, inPool, findVisibleCall}
+use Rattle.reads.specs.Conflict.{toldTest, conflictOf, conflictCall}
 use Rattle.reads.specs.declared.Looked.{Looked}
 use Rattle.reads.specs.declared.Refusal.{Refusal}
 
@@ -90,3 +98,79 @@ module _ (s : List ℕ) (state : State) (key xmax : ℕ) (active : List ℕ) (cu
           → r ≡ findVisibleRun s state key xmax active cur ids states
       unfolding findVisibleRun
       run-look e t u = u ∙ rw (sym pool ∙ pool-good, sym list ∙ list-good, sym e ∙ t)
+
+-- ---- what a lookup found
+
+start-small : (s : List ℕ) (used p : ℕ) (c : Cell) → FoundIn s used p c → c .version .start ≤ 4096
+start-small s used p c f = let q = cell-placed (page p s) (c .at) c (f .there) in omega (arith, q .whole, q .inside, page-short p s)
+
+look-found : (st : ℕ → ℕ) (active : List ℕ) (xmax : ℕ) (cur : Current) (state : State) (key : ℕ) (s : List ℕ) {p : ℕ} {c : Cell}
+    → lookOf st active xmax cur state key s ≡ Looked.At p c → FoundIn s (state .used) p c
+unfolding lookOf
+look-found st active xmax cur state key s {p} {c} e = by-way (descendOf 3 (Route.Search key) (state .used) (state .root) s) e
+  where
+    by-best : (q : ℕ) (b : ChainBest) → bestAlong st active xmax cur (state .used) key q s ≡ b → lookedBest b ≡ Looked.At p c → FoundIn s (state .used) p c
+    by-best q (ChainBest.Ok (Best.At r d)) t u =
+        let v : ChainBest.Ok (Best.At r d) ≡ ChainBest.Ok (Best.At p c) = cc in
+        best-in st active xmax cur (state .used) key s q (t ∙ v)
+    by-best q (ChainBest.Ok Best.Nothing) t u = absurd (let z : _≡_ {A = ℕ} 0 1 = cc in omega arith)
+    by-best q (ChainBest.Bad f) t u = absurd (let z : _≡_ {A = ℕ} 0 1 = cc in omega arith)
+
+    by-way : (d : Descent) → onLeaf (λ q. lookedBest (bestAlong st active xmax cur (state .used) key q s)) (λ f. Looked.Refused (badTree f)) d ≡ Looked.At p c → FoundIn s (state .used) p c
+    by-way (Descent.Leaf q) u = by-best q (bestAlong st active xmax cur (state .used) key q s) refl u
+    by-way (Descent.Bad f) u = absurd (let z : _≡_ {A = ℕ} 0 1 = cc in omega arith)
+
+module _ (s : List ℕ) (state : State) (key xmax : ℕ) (active : List ℕ) (cur : Current) (ids states : List ℕ) where
+  pub run-small : {r : Looked} {p : ℕ} {c : Cell} → r ≡ findVisibleRun s state key xmax active cur ids states → r ≡ Looked.At p c → c .version .start ≤ 4096
+  unfolding findVisibleRun
+  run-small {r} {p} {c} e q = by-tests (goodPool s state) (goodActive active) (goodStatuses ids states) (sym e ∙ q)
+    where
+      by-tests : (x y z : Bool)
+          → pick x (pick y (pick z (lookOf (lookup ids states) active xmax cur state key s) (Looked.Refused (plain 4))) (Looked.Refused (plain 3))) (Looked.Refused (plain 1)) ≡ Looked.At p c
+          → c .version .start ≤ 4096
+      by-tests true true true u = start-small s (state .used) p c (look-found (lookup ids states) active xmax cur state key s u)
+      by-tests true true false u = absurd (let w : _≡_ {A = ℕ} 0 1 = cc in omega arith)
+      by-tests true false z u = absurd (let w : _≡_ {A = ℕ} 0 1 = cc in omega arith)
+      by-tests false y z u = absurd (let w : _≡_ {A = ℕ} 0 1 = cc in omega arith)
+
+  module _ {rank : ℕ} (same : rank ≡ key) {r : Looked} (run : r ≡ findVisibleRun s state rank xmax active cur ids states) where
+    pub call-found : {p : ℕ} {c : Cell} {v : Version} → r ≡ Looked.At p c → v ≡ inPool p c → done v ≡ findVisibleCall s state key xmax active cur ids states
+    unfolding findVisibleCall
+    call-found e q = rw (q, ← same, sym run ∙ e)
+
+    pub call-refused : {f : Refusal} → r ≡ Looked.Refused f → refused (f .number) ≡ findVisibleCall s state key xmax active cur ids states
+    unfolding findVisibleCall
+    call-refused e = rw (← same, sym run ∙ e)
+
+-- ---- conflict
+
+-- no status list
+pub none-judged : Judged [] []
+unfolding rising
+none-judged = record { rises = refl; same = refl }
+
+module _ (active : List ℕ) (xmax : ℕ) (cur : Current) (state : State) (key seen : ℕ) (s : List ℕ)
+    {d : Descent} (way : d ≡ descendOf 3 (Route.Search key) (state .used) (state .root) s) where
+  pub conflict-bad : {f : Fault} → d ≡ Descent.Bad f → refused 2 ≡ conflictOf active xmax cur state key seen s
+  unfolding conflictOf
+  conflict-bad e = rw (sym way ∙ e)
+
+  pub conflict-leaf : {p : ℕ} {r : Outcome Bool} {b : ChainTest} → d ≡ Descent.Leaf p → b ≡ testAlong false (lookup [] []) active xmax cur (state .used) seen key p s
+      → r ≡ toldTest b → r ≡ conflictOf active xmax cur state key seen s
+  unfolding conflictOf
+  conflict-leaf e q u = u ∙ rw (sym way ∙ e, q)
+
+module _ (s : List ℕ) (state : State) (key seen xmax : ℕ) (active : List ℕ) (cur : Current) where
+  pub conflict-pool : {a : Bool} → a ≡ goodPool s state → a ≡ false → refused 1 ≡ conflictCall s state key seen xmax active cur
+  unfolding conflictCall
+  conflict-pool e t = rw (sym e ∙ t)
+
+  module _ {a : Bool} (pool : a ≡ goodPool s state) (pool-good : a ≡ true) where
+    pub conflict-active : {b : Bool} → b ≡ goodActive active → b ≡ false → refused 3 ≡ conflictCall s state key seen xmax active cur
+    unfolding conflictCall
+    conflict-active e t = rw (sym pool ∙ pool-good, sym e ∙ t)
+
+    pub conflict-test : {b : Bool} {rank : ℕ} {r : Outcome Bool} → b ≡ goodActive active → b ≡ true → rank ≡ key → r ≡ conflictOf active xmax cur state rank seen s
+        → r ≡ conflictCall s state key seen xmax active cur
+    unfolding conflictCall
+    conflict-test e t k u = u ∙ rw (sym pool ∙ pool-good, sym e ∙ t, k)

@@ -9,8 +9,8 @@ ghost use Rattle.page.specs.Key.{rankOf};
 ghost use Rattle.mvcc.specs.Lists.{rising, lookup, Judged};
 ghost use Rattle.reads.specs.Answer.{ofCreated, ofFound, ofTold};
 ghost use Rattle.reads.specs.Create.{rooted, createdPool, createCall, createAfter};
-ghost use Rattle.reads.specs.Find.{plain, lookedBest, lookOf, findVisibleRun, findVisibleCall, findCall};
-ghost use Rattle.reads.specs.Conflict.{conflictCall};
+ghost use Rattle.reads.specs.Find.{plain, lookedBest, lookOf, findVisibleRun, inPool, findVisibleCall, findCall};
+ghost use Rattle.reads.specs.Conflict.{toldTest, conflictOf, conflictCall};
 use leaf::find::Best;
 use mvcc::Current;
 use page::pool::State;
@@ -18,6 +18,7 @@ use row::Cell;
 use row::Fault;
 use row::Version;
 use tree::ChainBest;
+use tree::ChainTest;
 use tree::Descent;
 use tree::Route;
 
@@ -178,4 +179,116 @@ pub fn find_visible_at(
         return Looked::Refused(plain_refusal(3));
     }
     Looked::Refused(plain_refusal(1))
+}
+
+// The place of the data counts from the pool's first byte.
+fn in_pool(p: u32, c: Cell) -> Version
+    requires { ⌜ c .version .start ≤ 4096 ⌝ }
+    ensures { λ r. ⌜ r ≡ inPool p c ⌝ }
+{
+    let v = c.version;
+    let stamp = v.stamp;
+    let pointer = v.pointer;
+    Version {
+        creator: v.creator,
+        stamp,
+        pointer,
+        start: p as usize * page::PAGE_SIZE + v.start,
+        len: v.len,
+    }
+}
+
+pub fn find_visible(
+    pool: &[u8],
+    st: State,
+    key: i32,
+    xmax: u64,
+    active: &[u64],
+    cur: Current,
+    ids: &[u64],
+    states: &[u8],
+) -> Found
+    ensures { λ r. ⌜ ofFound r ≡ findVisibleCall (now (pool .entry)) st (rankOf key) xmax (now (active .entry)) cur (now (ids .entry)) (now (states .entry)) ⌝ }
+{
+    let rank = page::key::rank_of(key);
+    match find_visible_at(pool, st, rank, xmax, active, cur, ids, states) {
+        Looked::Refused(r) => Found::Refused(r.number),
+        Looked::At(p, c) => Found::Done(in_pool(p, c)),
+    }
+}
+
+// Plain lookup: the newest version that the caller's own transaction, if any, sees among all that are finished.
+pub fn find(pool: &[u8], st: State, key: i32, cur: Current, ids: &[u64], states: &[u8]) -> Found
+    ensures { λ r. ⌜ ofFound r ≡ findCall (now (pool .entry)) st (rankOf key) cur (now (ids .entry)) (now (states .entry)) ⌝ }
+{
+    find_visible(
+        pool,
+        st,
+        key,
+        mvcc::PLAIN_XMAX,
+        &ids[0..0],
+        cur,
+        ids,
+        states,
+    )
+}
+
+fn told_of(r: ChainTest) -> Told
+    ensures { λ q. ⌜ ofTold q ≡ toldTest r ⌝ }
+{
+    match r {
+        ChainTest::Ok(b) => Told::Done(b),
+        ChainTest::Bad(_) => Told::Refused(2),
+    }
+}
+
+fn conflict_at(
+    pool: &[u8],
+    st: State,
+    key: u32,
+    seen: u64,
+    xmax: u64,
+    active: &[u64],
+    cur: Current,
+) -> Told
+    requires { ⌜ (st .used * 4096 ≤ length (now pool)) × (rising (now active) ≡ true) ⌝ }
+    ensures { λ r. ⌜ ofTold r ≡ conflictOf (now (active .entry)) xmax cur st key seen (now (pool .entry)) ⌝ }
+{
+    match tree::descend(pool, st.used, st.root, Route::Search(key)) {
+        Descent::Bad(_) => Told::Refused(2),
+        Descent::Leaf(p) => told_of(tree::test_along(
+            pool,
+            false,
+            &active[0..0],
+            &pool[0..0],
+            active,
+            xmax,
+            cur,
+            st.used,
+            seen,
+            key,
+            p,
+        )),
+    }
+}
+
+pub fn has_write_conflict(
+    pool: &[u8],
+    st: State,
+    key: i32,
+    seen: u64,
+    xmax: u64,
+    active: &[u64],
+    cur: Current,
+) -> Told
+    ensures { λ r. ⌜ ofTold r ≡ conflictCall (now (pool .entry)) st (rankOf key) seen xmax (now (active .entry)) cur ⌝ }
+{
+    let rank = page::key::rank_of(key);
+    if page::pool::pool_is_good(pool, st) {
+        if mvcc::lists::good_active(active) {
+            return conflict_at(pool, st, rank, seen, xmax, active, cur);
+        }
+        return Told::Refused(3);
+    }
+    Told::Refused(1)
 }

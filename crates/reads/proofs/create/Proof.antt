@@ -6,10 +6,6 @@ use native.Mathlib.Omega.{arith}
 use borrow.Author.Needs.{needs}
 use Rattle.reads.proofs.create.Statement.{statement}
 use Rattle.reads.proofs.create.Tie as tie
-use Rattle.reads.proofs.create.Reads as reads
-use Rattle.reads.proofs.create.Lts as lts
-use Rattle.page.proofs.pool.pool_is_good.Reads as pool-is-good-reads
-use Rattle.reads.proofs.make_root.Reads as make-root-reads
 
 pool-is-good-requires : tie.Need-pool-is-good-requires
 pool-is-good-requires c κs = search needs

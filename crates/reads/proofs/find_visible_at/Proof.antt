@@ -2,18 +2,10 @@ use Rattle.reads.proofs.Calls.{run-pool, run-active, run-statuses, run-
 use Rattle.mvcc.proofs.Laws.{good-active-rises, good-statuses-judged}
 use Rattle.page.proofs.PoolLaws.{pool-is}
 use mathlib.Core.Path.{sym, _∙_}
-use native.Mathlib.Omega.{arith}
 -- `reads::find_visible_at` meets its contract: each way out is one law of Calls. Assumes nothing.
 use borrow.Author.Needs.{needs}
 use Rattle.reads.proofs.find_visible_at.Statement.{statement}
 use Rattle.reads.proofs.find_visible_at.Tie as tie
-use Rattle.reads.proofs.find_visible_at.Reads as reads
-use Rattle.reads.proofs.find_visible_at.Lts as lts
-use Rattle.mvcc.proofs.lists.good_active.Reads as good-active-reads
-use Rattle.mvcc.proofs.lists.good_statuses.Reads as good-statuses-reads
-use Rattle.page.proofs.pool.pool_is_good.Reads as pool-is-good-reads
-use Rattle.reads.proofs.look.Reads as look-reads
-use Rattle.reads.proofs.plain_refusal.Reads as plain-refusal-reads
 
 pool-is-good-requires : tie.Need-pool-is-good-requires
 pool-is-good-requires c κs = search needs

@@ -3,11 +3,6 @@ use Rattle.reads.proofs.Calls.{look-bad, look-leaf}
 use borrow.Author.Needs.{needs}
 use Rattle.reads.proofs.look.Statement.{statement}
 use Rattle.reads.proofs.look.Tie as tie
-use Rattle.reads.proofs.look.Reads as reads
-use Rattle.reads.proofs.look.Lts as lts
-use Rattle.reads.proofs.looked_of.Reads as looked-of-reads
-use Rattle.tree.proofs.best_along.Reads as best-along-reads
-use Rattle.tree.proofs.descend.Reads as descend-reads
 
 descend-requires : tie.Need-descend-requires
 descend-requires c κs = search needs

@@ -2,8 +2,6 @@
 use borrow.Author.Needs.{needs}
 use Rattle.reads.proofs.looked_of.Statement.{statement}
 use Rattle.reads.proofs.looked_of.Tie as tie
-use Rattle.reads.proofs.looked_of.Reads as reads
-use Rattle.reads.proofs.looked_of.Lts as lts
 
 enum-known-r : tie.Need-enum-known-r
 enum-known-r c = search needs

@@ -5,10 +5,6 @@ use native.Mathlib.Omega.{arith}
 use borrow.Author.Needs.{needs}
 use Rattle.reads.proofs.make_root.Statement.{statement}
 use Rattle.reads.proofs.make_root.Tie as tie
-use Rattle.reads.proofs.make_root.Reads as reads
-use Rattle.reads.proofs.make_root.Lts as lts
-use Rattle.page.proofs.pool.allocate.Reads as allocate-reads
-use Rattle.reads.proofs.write_root.Reads as write-root-reads
 
 allocate-requires : tie.Need-allocate-requires
 allocate-requires c κs = search needs

@@ -2,10 +2,6 @@
 use borrow.Author.Needs.{needs}
 use Rattle.reads.proofs.write_root.Statement.{statement}
 use Rattle.reads.proofs.write_root.Tie as tie
-use Rattle.reads.proofs.write_root.Reads as reads
-use Rattle.reads.proofs.write_root.Lts as lts
-use Rattle.page.proofs.set_is_root.Reads as set-is-root-reads
-use Rattle.page.proofs.set_node_type.Reads as set-node-type-reads
 
 set-node-type-requires : tie.Need-set-node-type-requires
 set-node-type-requires c κs = search needs
