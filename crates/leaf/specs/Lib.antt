@@ -3,3 +3,5 @@ pub mod Cells
 pub mod Rows
 pub mod Place
 pub mod Edit
+pub mod Divide
+pub mod EditFacts
