@@ -10,6 +10,7 @@ use Rattle.row.specs.Read.{cellAt}
 use Rattle.row.specs.declared.Cell.{Cell}
 use Rattle.row.specs.declared.Fault.{Fault}
 use Rattle.row.specs.declared.read.CellRead.{CellRead}
+use Rattle.leaf.specs.declared.Step.{Step}
 use Rattle.leaf.specs.declared.Judged.{Judged}
 
 -- go on with what was read
@@ -42,17 +43,19 @@ structural p = record { kind = 0; page = p; offset = 0 }
 abbrev pub cellFault : (p at kind : ℕ) → Fault
 cellFault p at kind = record { kind = kind; page = p; offset = at }
 
+-- the cell at `at`, after one of key k and creator c; or its fault
+unfoldable pub stepOf : (p k c at : ℕ) → List ℕ → Step
+stepOf p k c at s =
+    onCell (λ x. pick (inOrder k c (x .key) (x .version .creator)) (Step.Got x) (Step.Bad (structural p))) (λ kind. Step.Bad (cellFault p at kind)) (cellAt s at)
+
+abbrev pub onStep : {A : Type 0} → (Cell → A) → (Fault → A) → Step → A
+onStep good ill (Step.Got x) = good x
+onStep good ill (Step.Bad f) = ill f
+
 -- n cells from `at` on, after one of key k and creator c
 unfoldable pub judgeCells : (p k c n at : ℕ) → List ℕ → Judged
 judgeCells p k c zero at s = Judged.Ok at
-judgeCells p k c (suc n) at s =
-    onCell
-    (λ x.
-    pick (inOrder k c (x .key) (x .version .creator))
-    (judgeCells p (x .key) (x .version .creator) n (x .next) s)
-    (Judged.Bad (structural p)))
-    (λ kind. Judged.Bad (cellFault p at kind))
-    (cellAt s at)
+judgeCells p k c (suc n) at s = onStep (λ x. judgeCells p (x .key) (x .version .creator) n (x .next) s) (λ f. Judged.Bad f) (stepOf p k c at s)
 
 -- page p with the bytes pg; no rank and no creator is below 0
 unfoldable pub judgeLeaf : ℕ → List ℕ → Judged

@@ -6,8 +6,15 @@ pub mod place;
 ghost use mathlib.Core.Path.{_≡_};
 ghost use Prim.Native.Nat.{_<_};
 ghost use lib.ListN.{length};
-ghost use Rattle.leaf.specs.Cells.{inOrder, structural, cellFault, judgeCells, judgeLeaf};
+ghost use Rattle.leaf.specs.Cells.{inOrder, structural, cellFault, stepOf, judgeCells, judgeLeaf};
+use row::Cell;
 use row::Fault;
+
+// The next cell of a walk, or the fault that ends it.
+pub enum Step {
+    Got(Cell),
+    Bad(Fault),
+}
 
 // Where the cells end, or the first fault in reading order.
 pub enum Judged {
@@ -48,6 +55,23 @@ pub fn cell_fault(p: u32, at: usize, kind: u8) -> Fault
     }
 }
 
+// The cell at `at`, after one of key k and creator c: every walk over a leaf goes by this, so that it judges as it reads.
+pub fn next_cell(pg: &[u8], p: u32, k: u32, c: u64, at: usize) -> Step
+    requires { ⌜ at < 65536 ⌝ }
+    ensures { λ r. ⌜ r ≡ stepOf p k c at (now (pg .entry)) ⌝ }
+{
+    match row::read::read_cell(pg, at) {
+        row::read::CellRead::Bad(kind) => Step::Bad(cell_fault(p, at, kind)),
+        row::read::CellRead::Got(x) => {
+            let v = x.version;
+            if in_order(k, c, x.key, v.creator) {
+                return Step::Got(x);
+            }
+            Step::Bad(structural_fault(p))
+        }
+    }
+}
+
 fn judge_cells(pg: &[u8], p: u32, n: usize) -> Judged
     requires { ⌜ length (now pg) ≡ 4096 ⌝ }
     ensures { λ r. ⌜ r ≡ judgeCells p 0 0 n 12 (now (pg .entry)) ⌝ }
@@ -57,20 +81,16 @@ fn judge_cells(pg: &[u8], p: u32, n: usize) -> Judged
     let mut k: u32 = 0;
     let mut c: u64 = 0;
     while 0 < left {
-        match row::read::read_cell(pg, at) {
-            row::read::CellRead::Bad(kind) => return Judged::Bad(cell_fault(p, at, kind)),
-            row::read::CellRead::Got(x) => {
+        match next_cell(pg, p, k, c, at) {
+            Step::Bad(f) => return Judged::Bad(f),
+            Step::Got(x) => {
                 let v = x.version;
-                if in_order(k, c, x.key, v.creator) {
-                    k = x.key;
-                    c = v.creator;
-                    at = x.next;
-                    left -= 1;
-                } else {
-                    return Judged::Bad(structural_fault(p));
-                }
+                k = x.key;
+                c = v.creator;
+                at = x.next;
             }
         }
+        left -= 1;
     }
     Judged::Ok(at)
 }
