@@ -1,2 +1,3 @@
 pub mod Walking
 pub mod Rowing
+pub mod Editing
