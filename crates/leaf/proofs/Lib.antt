@@ -1,3 +1,4 @@
 pub mod Walking
 pub mod Rowing
 pub mod Editing
+pub mod Dividing
