@@ -1,22 +1,21 @@
 -- Laws of a leaf divided over two pages: what was moved to the right side and what was kept on the left, with the edit
 -- done on one of them, are the two sides of the leaf as it would be; and the pool by its two pages. Assumes nothing.
 use mathlib.Core.Path.{_≡_, refl, sym, ap, _∙_}
-use mathlib.Core.List.{List, [], _∷_, _++_, append-assoc}
+use mathlib.Core.List.{List, [], _++_, append-assoc}
 use mathlib.Core.Logic.{⊎-elim}
 use Prim.Native.Nat.{ℕ, _+_, _-_, _*_, _≤_, _<_}
 use native.Mathlib.Omega.{arith}
 use lib.ListN.{length, List·getD-eq-default, take, drop, length-append, length-take, length-drop, length-replicate, replicate-append-replicate, take-append-drop}
 use lib.Seq.{length-take-le, take-append-le, take-append-add, drop-append-le, drop-append-add, take-at, drop-at, take-all}
-use borrow.Rule.Slice.PartMut.{midOf, putMid}
 use Rattle.store.specs.Le.{AreBytes, leAt, bytesLE, putAt}
-use Rattle.store.specs.Part.{part, splice, put, zeros, pad, spliced}
+use Rattle.store.specs.Part.{part, put, zeros, pad, spliced}
 use Rattle.store.proofs.LeLaws.{length-bytesLE, length-putAt, leAt-putAt-below}
 use Rattle.store.proofs.PartLaws.{le-or-lt, getD-part, length-part, part-part, part-add, splice-within}
 use Rattle.store.proofs.PutLaws.{put-def, put-splice, length-put, putAt-put, put-end, part-put-above, length-spliced}
 use Rattle.store.proofs.SeamLaws.{part-left, part-right, part-whole, leAt-same, spliced-before, spliced-new, spliced-after}
 use Rattle.page.specs.Page.{page, setPage}
 use Rattle.page.specs.Header.{nextLeaf, withNodeType, withCount, withNextLeaf}
-use Rattle.page.proofs.PageLaws.{lent-page, back-page, length-page, length-setPage, page-setPage, page-setPage-other, leAt-page, putAt-page, setPage-setPage}
+use Rattle.page.proofs.PageLaws.{length-page, length-setPage, page-setPage, page-setPage-other, leAt-page, putAt-page, setPage-setPage}
 use Rattle.row.specs.Read.{cellAt}
 use Rattle.row.specs.Write.{cellSize, cellBytes}
 use Rattle.row.specs.declared.Stamp.{Stamp}

@@ -2,15 +2,16 @@
 -- Assumes nothing.
 use mathlib.Core.Path.{_≡_, refl, sym, ap, _∙_}
 use mathlib.Core.List.{List, [], _∷_, _++_, append-assoc}
-use Prim.Native.Nat.{ℕ, _+_, _-_, _≤_, _<_}
+use Prim.Native.Nat.{ℕ, _+_, _-_, _≤_}
 use native.Mathlib.Omega.{arith}
 use lib.ListN.{length, length-append, length-replicate}
 use borrow.Rule.Slice.PartMut.{midOf, putMid}
 use Rattle.store.specs.Le.{AreBytes, bytesLE, putAt}
-use Rattle.store.specs.Part.{part, splice, put, zeros, pad, spliced}
+use Rattle.store.specs.Part.{part, put, zeros, pad, spliced}
 use Rattle.store.proofs.LeLaws.{length-bytesLE, one-byte}
 use Rattle.store.proofs.PartLaws.{length-part, splice-part, part-add, part-first, part-peel}
 use Rattle.store.proofs.PutLaws.{put-splice, put-nil, length-put, putAt-put, put-field, put-before, put-after-at, put-end, part-put-below, part-put-above, tail-back, splice-done}
+use Rattle.store.proofs.SeamLaws.{put-part}
 use Rattle.page.specs.Key.{flip, keyBytes}
 use Rattle.row.specs.Read.{cellAt}
 use Rattle.row.specs.Write.{stampLen, pointerLen, stampBytes, pointerBytes, cellSize, headBytes, cellBytes}
@@ -18,7 +19,7 @@ use Rattle.row.specs.declared.Stamp.{Stamp}
 use Rattle.row.specs.declared.Pointer.{Pointer}
 use Rattle.row.specs.declared.Cell.{Cell}
 use Rattle.row.specs.declared.read.CellRead.{CellRead}
-use Rattle.row.proofs.Writing.{length-head, length-stamp, length-cell}
+use Rattle.row.proofs.Writing.{length-head, length-stamp}
 use Rattle.row.proofs.Exact.{read-is-written, cell-placed}
 use Rattle.leaf.specs.Edit.{gapped, withStamp}
 
@@ -181,8 +182,7 @@ module _ (at e key creator d : ℕ) (pt : Pointer) (body pg : List ℕ) (len : l
       let stored : putAt 8 pg (at + 18) d ≡ put at x pg
       = putAt-put 8 (at + 18) d pg (omega arith) ∙ put-inside at 18 (bytesLE 8 d) pg (rw length-bytesLE (omega arith)) ∙ rw first (simp append-assoc) in
       let j : at + 26 + (e - (at + 26)) ≡ e = omega arith in
-      let still : pg ≡ put (at + length x) (part (at + 26) (e - (at + 26)) pg) pg
-      = sym (rw lx (put-splice (at + 26) (e - (at + 26)) (part (at + 26) (e - (at + 26)) pg) pg (length-part (at + 26) (e - (at + 26)) pg (omega arith)) ∙ splice-part (at + 26) (e - (at + 26)) pg)) in
+      let still : pg ≡ put (at + length x) (part (at + 26) (e - (at + 26)) pg) pg = sym (rw lx (put-part (at + 26) (e - (at + 26)) pg (omega arith))) in
       let z : put e (zeros (4096 - e)) (put at x pg) ≡ put (at + length x + (e - (at + 26))) (zeros (length pg - (at + length x + (e - (at + 26))))) (put at x pg) = rw (lx, len, j) in
       let done : put e (zeros (4096 - e)) (put at x pg) ≡ pad 4096 (spliced at (at + 26) e x pg)
       = rw len at (z ∙ splice-done pg at (at + 26) e x (omega arith) (omega arith) (omega arith) (omega arith) still refl refl) in

@@ -2,3 +2,4 @@ pub mod Walking
 pub mod Rowing
 pub mod Editing
 pub mod Dividing
+pub mod EditFacts
