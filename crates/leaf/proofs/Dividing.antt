@@ -22,10 +22,9 @@ use Rattle.row.specs.declared.Stamp.{Stamp}
 use Rattle.row.specs.declared.Cell.{Cell}
 use Rattle.row.specs.declared.read.CellRead.{CellRead}
 use Rattle.row.proofs.Writing.{length-cell}
-use Rattle.leaf.specs.Edit.{gapped}
 use Rattle.leaf.specs.Divide.{leftLeaf, rightLeaf, divided}
 use Rattle.leaf.specs.declared.place.Cut.{Cut}
-use Rattle.leaf.proofs.Editing.{stamp-grown, bodyOf, cell-ends, cell-bytes}
+use Rattle.leaf.proofs.Editing.{grown, stamp-grown, bodyOf, cell-ends, cell-bytes}
 
 -- ---- zeros
 
@@ -86,10 +85,10 @@ module _ (a b e c : ℕ) (x s : List ℕ) (in₀ : a ≤ b) (in₁ : b ≤ e) (i
   lv = length-spliced a b e x s in₀ in₁ in₂
 
   -- x falls on the right side: it is put in where the bytes from c to e were moved to
-  pub right-kept : c ≤ a → part 0 c (spliced a b e x s) ≡ part 0 c s
+  right-kept : c ≤ a → part 0 c (spliced a b e x s) ≡ part 0 c s
   right-kept h = spliced-before a b e x s in₀ in₁ in₂ 0 c (omega arith)
 
-  pub right-edited : (n h : ℕ) (hd : List ℕ) (a′ b′ e′ : ℕ) → length hd ≡ h → c ≤ a → a′ + c ≡ h + a → b′ + c ≡ h + b → e′ + c ≡ h + e
+  right-edited : (n h : ℕ) (hd : List ℕ) (a′ b′ e′ : ℕ) → length hd ≡ h → c ≤ a → a′ + c ≡ h + a → b′ + c ≡ h + b → e′ + c ≡ h + e
       → spliced a′ b′ e′ x (pad n (hd ++ part c (e - c) s)) ≡ hd ++ part c (length (spliced a b e x s) - c) (spliced a b e x s)
   right-edited n h hd a′ b′ e′ lh k ea eb ee =
       let r = pad n (hd ++ part c (e - c) s) in
@@ -116,7 +115,7 @@ module _ (a b e c : ℕ) (x s : List ℕ) (in₀ : a ≤ b) (in₁ : b ≤ e) (i
 
   -- x falls on the left side, of which the bytes up to c′ were kept
   module _ (c′ : ℕ) (in₃ : b ≤ c′) (in₄ : c′ ≤ e) (at-c : c + b ≡ a + length x + c′) where
-    pub left-edited : (n : ℕ) → spliced a b c′ x (pad n (part 0 c′ s)) ≡ part 0 c (spliced a b e x s)
+    left-edited : (n : ℕ) → spliced a b c′ x (pad n (part 0 c′ s)) ≡ part 0 c (spliced a b e x s)
     left-edited n =
         let i : c ≡ a + (length x + (c′ - b)) = omega arith in
         let z : 0 + a ≡ a = omega arith in
@@ -133,7 +132,7 @@ module _ (a b e c : ℕ) (x s : List ℕ) (in₀ : a ≤ b) (in₁ : b ≤ e) (i
           spliced-after a b e x s in₀ in₁ in₂ b (a + length x) (c′ - b) (omega arith) (omega arith) (omega arith),
         )
 
-    pub left-moved : part c (length (spliced a b e x s) - c) (spliced a b e x s) ≡ part c′ (e - c′) s
+    left-moved : part c (length (spliced a b e x s) - c) (spliced a b e x s) ≡ part c′ (e - c′) s
     left-moved =
         let m : length (spliced a b e x s) - c ≡ e - c′ = omega (arith, lv) in
         rw m (spliced-after a b e x s in₀ in₁ in₂ c′ c (e - c′) in₃ (omega arith) (omega arith))
@@ -204,12 +203,19 @@ module _ (p q : ℕ) (x y s : List ℕ) (less : p < q) (fits : q * 4096 + 4096 �
 
 -- ---- the stores of part_leaf and of link_leaves
 
+-- counts k and r, and the links
+abbrev pub linked : (p q k r : ℕ) → List ℕ → List ℕ
+linked p q k r s = setPage p (withNextLeaf q (withCount k (page p s))) (setPage q (withNextLeaf (nextLeaf (page p s)) (withCount r (page q s))) s)
+
 -- what page p keeps, and what moves to page q
 abbrev pub kept : (p c : ℕ) → List ℕ → List ℕ
 kept p c s = pad 4096 (part 0 c (page p s))
 
 abbrev pub movedOver : (p q c e : ℕ) → List ℕ → List ℕ
 movedOver p q c e s = pad 4096 (part 0 12 (withNodeType 1 (page q s)) ++ part c (e - c) (page p s))
+
+abbrev pub parted : (p q c e : ℕ) → List ℕ → List ℕ
+parted p q c e s = setPage p (kept p c s) (setPage q (movedOver p q c e s) s)
 
 module _ (p q c e : ℕ) (s : List ℕ) (less : p < q) (fits : q * 4096 + 4096 ≤ length s) where
   len-q : length (page q s) ≡ 4096
@@ -228,16 +234,16 @@ module _ (p q c e : ℕ) (s : List ℕ) (less : p < q) (fits : q * 4096 + 4096 �
   len-leaf = length-putAt 1 (page q s) 0 1 ∙ len-q
 
   module _ (in₀ : 12 ≤ c) (in₁ : c ≤ e) (in₂ : e ≤ 4096) where
-    pub length-kept : length (kept p c s) ≡ 4096
+    length-kept : length (kept p c s) ≡ 4096
     length-kept = length-pad 4096 (part 0 c (page p s)) (rw (length-part 0 c (page p s) (omega (arith, len-p))) (omega arith))
 
-    pub length-moved : length (movedOver p q c e s) ≡ 4096
+    length-moved : length (movedOver p q c e s) ≡ 4096
     length-moved =
         length-pad 4096 (part 0 12 (withNodeType 1 (page q s)) ++ part c (e - c) (page p s))
         (rw (length-append, length-part 0 12 (withNodeType 1 (page q s)) (omega (arith, len-leaf)), length-part c (e - c) (page p s) (omega (arith, len-p))) (omega arith))
 
     pub part-done : {s₁ s₂ s₃ : List ℕ} → page q s ≡ zeros 4096 → s₁ ≡ putAt 1 s (q * 4096) 1 → s₂ ≡ put (q * 4096 + 12) (part (p * 4096 + c) (e - c) s₁) s₁
-        → s₃ ≡ put (p * 4096 + c) (zeros (p * 4096 + 4096 - (p * 4096 + c))) s₂ → s₃ ≡ setPage p (kept p c s) (setPage q (movedOver p q c e s) s)
+        → s₃ ≡ put (p * 4096 + c) (zeros (p * 4096 + 4096 - (p * 4096 + c))) s₂ → s₃ ≡ parted p q c e s
     unfolding pad
     part-done {s₁} {s₂} {s₃} z f g k =
         let leaf = withNodeType 1 (page q s) in
@@ -279,7 +285,7 @@ two-fields p k v s fits =
 
 pub link-done : (p q k r : ℕ) (s : List ℕ) {s₁ s₂ s₃ s₄ : List ℕ} {next : ℕ} → p < q → q * 4096 + 4096 ≤ length s → s₁ ≡ putAt 2 s (q * 4096 + 6) r
     → next ≡ leAt 4 s₁ (p * 4096 + 8) → s₂ ≡ putAt 4 s₁ (q * 4096 + 8) next → s₃ ≡ putAt 2 s₂ (p * 4096 + 6) k → s₄ ≡ putAt 4 s₃ (p * 4096 + 8) q
-    → s₄ ≡ setPage p (withNextLeaf q (withCount k (page p s))) (setPage q (withNextLeaf (nextLeaf (page p s)) (withCount r (page q s))) s)
+    → s₄ ≡ linked p q k r s
 link-done p q k r s {s₁} {s₂} {s₃} {s₄} {next} less fits e₁ e₂ e₃ e₄ e₅ =
     let y = withNextLeaf (nextLeaf (page p s)) (withCount r (page q s)) in
     let ly : length y ≡ 4096 = length-putAt 4 (withCount r (page q s)) 8 (nextLeaf (page p s)) ∙ length-putAt 2 (page q s) 6 r ∙ length-page q s fits in
@@ -330,7 +336,7 @@ module _ (p q n a b e : ℕ) (cut : Cut) (x s : List ℕ) (less : p < q) (fits :
 
   -- both sides with counts and links
   sides-linked : {s₂ s₃ : List ℕ} → s₂ ≡ setPage p leftSide (setPage q rightSide s)
-      → s₃ ≡ setPage p (withNextLeaf q (withCount (cut .cells) (page p s₂))) (setPage q (withNextLeaf (nextLeaf (page p s₂)) (withCount (n - cut .cells) (page q s₂))) s₂)
+      → s₃ ≡ linked p q (cut .cells) (n - cut .cells) s₂
       → s₃ ≡ divided p q n cut overfull s
   unfolding divided leftLeaf rightLeaf
   sides-linked e₂ e₃ =
@@ -348,9 +354,9 @@ module _ (p q n a b e : ℕ) (cut : Cut) (x s : List ℕ) (less : p < q) (fits :
 
   -- the edit done on the right side, or on the left
   pub right-done : {s₁ y s₃ : List ℕ} (a′ b′ e′ : ℕ) → 12 + cut .bytes ≤ a → a′ + cut .bytes ≡ a → b′ + cut .bytes ≡ b → e′ + cut .bytes ≡ e
-      → s₁ ≡ setPage p (kept p (12 + cut .bytes) s) (setPage q (movedOver p q (12 + cut .bytes) e s) s)
+      → s₁ ≡ parted p q (12 + cut .bytes) e s
       → y ≡ pad 4096 (spliced a′ b′ e′ x (page q s₁))
-      → s₃ ≡ setPage p (withNextLeaf q (withCount (cut .cells) (page p (setPage q y s₁)))) (setPage q (withNextLeaf (nextLeaf (page p (setPage q y s₁))) (withCount (n - cut .cells) (page q (setPage q y s₁)))) (setPage q y s₁))
+      → s₃ ≡ linked p q (cut .cells) (n - cut .cells) (setPage q y s₁)
       → s₃ ≡ divided p q n cut overfull s
   right-done {s₁} {y} {s₃} a′ b′ e′ h ea eb ee e₁ f e₃ =
       let c = 12 + cut .bytes in
@@ -368,9 +374,9 @@ module _ (p q n a b e : ℕ) (cut : Cut) (x s : List ℕ) (less : p < q) (fits :
       sides-linked e₂ e₃
 
   pub left-done : {s₁ y s₃ : List ℕ} (c : ℕ) → b ≤ c → c ≤ e → 12 + cut .bytes + b ≡ a + length x + c
-      → s₁ ≡ setPage p (kept p c s) (setPage q (movedOver p q c e s) s)
+      → s₁ ≡ parted p q c e s
       → y ≡ pad 4096 (spliced a b c x (page p s₁))
-      → s₃ ≡ setPage p (withNextLeaf q (withCount (cut .cells) (page p (setPage p y s₁)))) (setPage q (withNextLeaf (nextLeaf (page p (setPage p y s₁))) (withCount (n - cut .cells) (page q (setPage p y s₁)))) (setPage p y s₁))
+      → s₃ ≡ linked p q (cut .cells) (n - cut .cells) (setPage p y s₁)
       → s₃ ≡ divided p q n cut overfull s
   left-done {s₁} {y} {s₃} c h₀ h₁ ec e₁ f e₃ =
       let k = kept p c s in
@@ -420,9 +426,9 @@ module _ (p q n e d : ℕ) (cut : Cut) (c : Cell) (s : List ℕ) (less : p < q) 
   grows = length-cell (c .key) (c .version .creator) (Stamp.By d) (c .version .pointer) (bodyOf c (page p s)) ∙ omega arith
 
   pub stamp-right-done : {s₁ y s₃ : List ℕ} (a′ e′ m : ℕ) → 12 + cut .bytes ≤ c .at → e + 8 ≤ 4096 + cut .bytes → a′ + cut .bytes ≡ c .at → e′ + cut .bytes ≡ e → m ≡ c .next - c .at
-      → s₁ ≡ setPage p (kept p (12 + cut .bytes) s) (setPage q (movedOver p q (12 + cut .bytes) e s) s)
-      → y ≡ putAt 8 (putAt 1 (putAt 4 (gapped (a′ + 18) (a′ + 18) e′ 8 (page q s₁)) (a′ + 4) m) (a′ + 17) 1) (a′ + 18) d
-      → s₃ ≡ setPage p (withNextLeaf q (withCount (cut .cells) (page p (setPage q y s₁)))) (setPage q (withNextLeaf (nextLeaf (page p (setPage q y s₁))) (withCount (n - cut .cells) (page q (setPage q y s₁)))) (setPage q y s₁))
+      → s₁ ≡ parted p q (12 + cut .bytes) e s
+      → y ≡ grown a′ e′ m d (page q s₁)
+      → s₃ ≡ linked p q (cut .cells) (n - cut .cells) (setPage q y s₁)
       → s₃ ≡ divided p q n cut (spliced (c .at) (c .next) e stamped (page p s)) s
   stamp-right-done {s₁} {y} {s₃} a′ e′ m h h₁ ea ee em e₁ f e₃ =
       let u = ends in
@@ -440,9 +446,9 @@ module _ (p q n e d : ℕ) (cut : Cut) (c : Cell) (s : List ℕ) (less : p < q) 
       right-done p q n (c .at) (c .next) e cut stamped s less fits in₀ (omega arith) in₁ in₂ (omega arith) (omega arith) (omega arith) a′ (a′ + size) e′ h ea (omega arith) ee e₁ (f ∙ g) e₃
 
   pub stamp-left-done : {s₁ y s₃ : List ℕ} (mid m : ℕ) → c .next ≤ mid → mid ≤ e → mid + 8 ≤ 4096 → 12 + cut .bytes ≡ mid + 8 → m ≡ c .next - c .at
-      → s₁ ≡ setPage p (kept p mid s) (setPage q (movedOver p q mid e s) s)
-      → y ≡ putAt 8 (putAt 1 (putAt 4 (gapped (c .at + 18) (c .at + 18) mid 8 (page p s₁)) (c .at + 4) m) (c .at + 17) 1) (c .at + 18) d
-      → s₃ ≡ setPage p (withNextLeaf q (withCount (cut .cells) (page p (setPage p y s₁)))) (setPage q (withNextLeaf (nextLeaf (page p (setPage p y s₁))) (withCount (n - cut .cells) (page q (setPage p y s₁)))) (setPage p y s₁))
+      → s₁ ≡ parted p q mid e s
+      → y ≡ grown (c .at) mid m d (page p s₁)
+      → s₃ ≡ linked p q (cut .cells) (n - cut .cells) (setPage p y s₁)
       → s₃ ≡ divided p q n cut (spliced (c .at) (c .next) e stamped (page p s)) s
   stamp-left-done {s₁} {y} {s₃} mid m h h₁ h₂ ec em e₁ f e₃ =
       let u = ends in

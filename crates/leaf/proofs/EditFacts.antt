@@ -26,7 +26,7 @@ use Rattle.leaf.specs.Rows.{Row, AllFit, rowOf, rows, rowBytes, rowsByte
 use Rattle.leaf.specs.Place.{placeStep, placeOf}
 use Rattle.leaf.specs.Edit.{withCell, withStamp, without}
 use Rattle.leaf.specs.Divide.{leftLeaf, rightLeaf}
-use Rattle.leaf.specs.EditFacts.{Sound, RowsAreRead, RowsFill, InsertInserts, StampStamps, OutIsOut, DivideDivides, stampRow, bytesOf}
+use Rattle.leaf.specs.EditFacts.{Sound, RowsAreRead, RowsFill, InsertInserts, StampStamps, OutIsOut, DivideDivides, insertRow, stampRow, bytesOf}
 use Rattle.leaf.specs.declared.Step.{Step}
 use Rattle.leaf.specs.declared.Judged.{Judged}
 use Rattle.leaf.specs.declared.place.Place.{Place}
@@ -322,50 +322,67 @@ no-rows : rowsBytes [] ≡ []
 unfolding rowsBytes
 no-rows = refl
 
-pub insert-inserts : InsertInserts
-unfolding withCell writeRows placeOf
-insert-inserts pg e r sound fit room =
+-- the place of a new cell of key k and creator c splits the cells
+pub record PlaceSplit (pg : List ℕ) (e k c : ℕ) : Type 0 where
+  pub count : ℕ
+  pub here : placeOf k c (cells pg) ≡ record { at = endOf 12 (take count (cells pg)); before = count }
+  pub split : Split pg e (take count (cells pg)) (drop count (cells pg))
+
+pub place-split : (pg : List ℕ) (e k c : ℕ) → Sound pg e → PlaceSplit pg e k c
+unfolding placeOf
+place-split pg e k c sound =
+    let cs = cells pg in
+    let p = placed k c 0 0 12 0 cs (judged-leaf pg e (sound .judged) .rising) in
+    let z : 0 + p .count ≡ p .count = omega arith in
+    record { count = p .count; here = p .there ∙ rw z; split = split-at pg e (take (p .count) cs) (drop (p .count) cs) sound (sym (take-append-drop (p .count) cs)) }
+
+-- the bytes of the cells with a new one, and with one stamped, also where they are too many for a page
+pub insert-spliced : (pg : List ℕ) (e : ℕ) (r : Row) → Sound pg e
+    → spliced (placeOf (r .key) (r .creator) (cells pg) .at) (placeOf (r .key) (r .creator) (cells pg) .at) e (rowBytes r) pg
+    ≡ part 0 12 pg ++ rowsBytes (insertRow (placeOf (r .key) (r .creator) (cells pg) .before) r (rows pg))
+insert-spliced pg e r sound =
     let cs = cells pg in
     let f = rowOf pg in
-    let there = judged-leaf pg e (sound .judged) in
-    let p = placed (r .key) (r .creator) 0 0 12 0 cs (there .rising) in
+    let p = place-split pg e (r .key) (r .creator) sound in
     let i = p .count in
-    let s = split-at pg e (take i cs) (drop i cs) sound (sym (take-append-drop i cs)) in
-    let z : 0 + i ≡ i = omega arith in
-    let front = map f (take i cs) in
-    let back = map f (drop i cs) in
-    let n : length (front ++ (r ∷ back)) ≡ cellCount pg + 1 = omega (arith, length-append front (r ∷ back), length-map (take i cs) f, length-map (drop i cs) f, simp length-append at (ap length (take-append-drop i cs)), there .count) in
-    rw (
-      p .there,
-      z,
-      take-map f i cs,
-      drop-map f i cs,
-      spliced-rows (endOf 12 (take i cs)) (endOf 12 (take i cs)) e pg (rowBytes r) front (r ∷ []) back (s .front) (one-row r) (s .back),
-      n,
-    )
+    let s = p .split in
+    rw (p .here, take-map f i cs, drop-map f i cs)
+    (spliced-rows (endOf 12 (take i cs)) (endOf 12 (take i cs)) e pg (rowBytes r) (map f (take i cs)) (r ∷ []) (map f (drop i cs)) (s .front) (one-row r) (s .back))
+
+length-insert : (i : ℕ) (r : Row) (rs : List Row) → length (insertRow i r rs) ≡ length rs + 1
+length-insert i r rs = omega (arith, length-append (take i rs) (r ∷ drop i rs), simp length-append at (ap length (take-append-drop i rs)))
+
+pub insert-inserts : InsertInserts
+unfolding withCell writeRows
+insert-inserts pg e r sound fit room =
+    let place = placeOf (r .key) (r .creator) (cells pg) in
+    rw (insert-spliced pg e r sound, length-insert (place .before) r (rows pg), rows-fill pg e sound .1)
 
 end-one : (at : ℕ) (c : Cell) → endOf at (c ∷ []) ≡ c .next
 unfolding endOf
 end-one at c = refl
 
-pub stamp-stamps : StampStamps
-unfolding withStamp writeRows
-stamp-stamps pg e d before after c sound h room =
+pub stamp-spliced : (pg : List ℕ) (e d : ℕ) (before after : List Cell) (c : Cell) → Sound pg e → cells pg ≡ before ++ (c ∷ after)
+    → spliced (c .at) (c .next) e (rowBytes (stampRow d (rowOf pg c))) pg
+    ≡ part 0 12 pg ++ rowsBytes (map (rowOf pg) before ++ (stampRow d (rowOf pg c) ∷ map (rowOf pg) after))
+stamp-spliced pg e d before after c sound h =
     let f = rowOf pg in
-    let there = judged-leaf pg e (sound .judged) in
     let all : Chain pg 12 (before ++ (c ∷ after)) = subst (Chain pg 12) h (chain-cells pg (cellCount pg) 12) in
     let at-c : c .at ≡ endOf 12 before = cell-placed pg (endOf 12 before) c (chain-right pg 12 before (c ∷ after) all .0) .here in
     let next-c : endOf 12 (before ++ (c ∷ [])) ≡ c .next = end-append 12 before (c ∷ []) ∙ end-one (endOf 12 before) c in
     let s = split-at pg e before (c ∷ after) sound h in
     let t = split-at pg e (before ++ (c ∷ [])) after sound (h ∙ sym (append-assoc before (c ∷ []) after)) in
-    let front = map f before in
     let new = stampRow d (f c) in
-    let back = map f after in
-    let n : cellCount pg ≡ length (front ++ (new ∷ back))
-    = omega (arith, length-append front (new ∷ back), length-map before f, length-map after f, simp length-append at (ap length h), there .count) in
-    let i : spliced (c .at) (c .next) e (rowBytes new) pg ≡ part 0 12 pg ++ rowsBytes (front ++ (new ∷ back))
-    = spliced-rows (c .at) (c .next) e pg (rowBytes new) front (new ∷ []) back (rw at-c (s .front)) (one-row new) (rw next-c at (t .back)) in
-    ap (pad 4096) i ∙ sym (count-kept pg (rowsBytes (front ++ (new ∷ back))) (sound .whole) (length (front ++ (new ∷ back))) (sound .bytes) n)
+    spliced-rows (c .at) (c .next) e pg (rowBytes new) (map f before) (new ∷ []) (map f after) (rw at-c (s .front)) (one-row new) (rw next-c at (t .back))
+
+pub stamp-stamps : StampStamps
+unfolding withStamp writeRows
+stamp-stamps pg e d before after c sound h room =
+    let f = rowOf pg in
+    let rs = map f before ++ (stampRow d (f c) ∷ map f after) in
+    let n : cellCount pg ≡ length rs
+    = omega (arith, length-append (map f before) (stampRow d (f c) ∷ map f after), length-map before f, length-map after f, simp length-append at (ap length h), judged-leaf pg e (sound .judged) .count) in
+    ap (pad 4096) (stamp-spliced pg e d before after c sound h) ∙ sym (count-kept pg (rowsBytes rs) (sound .whole) (length rs) (sound .bytes) n)
 
 -- where the first cells end, by their bytes
 bytes-end : (pg : List ℕ) (e : ℕ) (xs ys : List Cell) → length pg ≡ 4096 → Split pg e xs ys → 12 + bytesOf pg xs ≡ endOf 12 xs

@@ -68,12 +68,12 @@ same-length c = search needs
 
 returns : tie.Need-returns
 returns c =
-    let k = c .before .before .before .before .before .before .before .before .before .before .before .before .before .before .before .before .before .before .before in
-    let k2 = c .before .before .before .before .before .before .before .before .before .before .before .before .before .before .before .before .before .before in
+    let known = c .before .before .before .before .before .before .before .before .before .before .before .before .before .before .before .before .before .before in
+    let k = known .before in
     let w = cell-placed (page (k .args .p) (now (k .args .pool))) (k .args .c .at) (k .args .c) (k .pre .1 .0 .0) in
     let f = rw lent-page at (c .before .before .before .before .before .before .before .grow-stamp .ensures) in
     let g = rw back-page at (c .before .before .link-leaves .ensures) in
-    stamp-right-done _ _ _ _ _ _ (k .args .c) (now (k .args .pool)) (omega arith) (omega arith) (λ i. (k2 .slice-known .given i) .fits) (k .pre .1 .0 .0) (k .pre .1 .0 .1) (omega arith) (omega arith) (omega arith) _ _ _
+    stamp-right-done _ _ _ _ _ _ (k .args .c) (now (k .args .pool)) (omega arith) (omega arith) (λ i. (known .slice-known .given i) .fits) (k .pre .1 .0 .0) (k .pre .1 .0 .1) (omega arith) (omega arith) (omega arith) _ _ _
     (omega arith) (omega arith) (omega arith) (omega arith) refl (c .before .before .before .before .before .before .before .before .before .before .before .before .before .before .before .part-leaf .ensures) f g
 
 pub stamp-divide-right-spec : {M : Type 1} → statement M
