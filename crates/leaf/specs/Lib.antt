@@ -4,3 +4,5 @@ pub mod Rows
 pub mod Find
 pub mod Place
 pub mod Edit
+pub mod Divide
+pub mod EditFacts
