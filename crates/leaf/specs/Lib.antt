@@ -4,3 +4,6 @@ pub mod Rows
 pub mod Find
 pub mod Place
 pub mod Edit
+pub mod CutFacts
+pub mod Vacuum
+pub mod VacuumFacts

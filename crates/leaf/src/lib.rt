@@ -2,6 +2,7 @@
 // where a leaf is cut, module edit changes a page in place.
 pub mod find;
 pub mod place;
+pub mod vacuum;
 
 ghost use mathlib.Core.Path.{_≡_};
 ghost use Prim.Native.Nat.{_<_};
