@@ -1,3 +1,4 @@
 pub mod Walking
 pub mod Rowing
 pub mod Finding
+pub mod Placing
