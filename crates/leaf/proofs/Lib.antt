@@ -2,3 +2,5 @@ pub mod Walking
 pub mod Rowing
 pub mod Finding
 pub mod Placing
+pub mod Cutting
+pub mod CutFacts
