@@ -4,3 +4,4 @@ pub mod Finding
 pub mod Placing
 pub mod Cutting
 pub mod CutFacts
+pub mod Editing

@@ -7,3 +7,5 @@ pub mod Edit
 pub mod CutFacts
 pub mod Vacuum
 pub mod VacuumFacts
+pub mod Divide
+pub mod EditFacts

@@ -1,0 +1,34 @@
+use Rattle.leaf.specs.Edit.{withCell}
+use borrow.Author.Needs.{needs}
+use Rattle.leaf.proofs.edit.insert_cell.Statement.{statement}
+use Rattle.leaf.proofs.edit.insert_cell.Tie as tie
+
+put-cell-requires : tie.Need-put-cell-requires
+put-cell-requires c κs = search needs
+
+add-set-cell-count : tie.Need-add-set-cell-count
+add-set-cell-count c = search needs
+
+cast-set-cell-count : tie.Need-cast-set-cell-count
+cast-set-cell-count c = search needs
+
+set-cell-count-requires : tie.Need-set-cell-count-requires
+set-cell-count-requires c κs = search needs
+
+same-length : tie.Need-same-length
+same-length c = search needs
+
+returns : tie.Need-returns
+unfolding withCell
+returns c = cc
+
+pub insert-cell-spec : {M : Type 1} → statement M
+insert-cell-spec =
+    tie.close
+    (tie.spec
+    put-cell-requires
+    add-set-cell-count
+    cast-set-cell-count
+    set-cell-count-requires
+    same-length
+    returns)
