@@ -5,3 +5,4 @@ pub mod Placing
 pub mod Cutting
 pub mod CutFacts
 pub mod Editing
+pub mod Sweeping
