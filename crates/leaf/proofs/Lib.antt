@@ -6,3 +6,4 @@ pub mod Cutting
 pub mod CutFacts
 pub mod Editing
 pub mod Sweeping
+pub mod VacuumFacts

@@ -1,19 +1,19 @@
 -- The edits of a vacuum, on a page whose cells from some offset on are the bytes of rows: what each leaves, and what the
 -- loop over the cells does from one to the next. Assumes nothing.
 use mathlib.Core.Path.{_≡_, refl, sym, ap, ap₂, _∙_, subst}
-use mathlib.Core.Bool.{Bool, true, false, _||_}
-use mathlib.Core.List.{List, [], _∷_, _++_, append-assoc, append-nil}
+use mathlib.Core.Bool.{Bool, true, false}
+use mathlib.Core.List.{List, [], _∷_, _++_, append-assoc}
 use Prim.Native.Nat.{ℕ, zero, suc, _+_, _-_, _/_, _%_, _≤_, _<_}
 use native.Mathlib.Nat.{zero-add}
 use native.Mathlib.Omega.{arith}
-use lib.ListN.{length, set, take, drop, length-append, length-drop, length-replicate, length-set}
-use lib.Seq.{take-append-le, drop-append-le, set-append-left, set-set, set-comm, take-at, drop-at, take-length}
+use lib.ListN.{length, set, drop, length-append, length-drop, length-replicate, length-set}
+use lib.Seq.{take-append-le, drop-append-le, set-append-left, set-set, set-comm, take-at, drop-at}
 use Rattle.store.specs.Pick.{pick}
-use Rattle.store.specs.Le.{AreBytes, leAt, bytesLE, putAt}
+use Rattle.store.specs.Le.{AreBytes, bytesLE, putAt}
 use Rattle.store.specs.Part.{part, splice, put, zeros, pad, spliced}
-use Rattle.store.proofs.LeLaws.{length-bytesLE, length-putAt, one-byte, leAt-lt}
-use Rattle.store.proofs.PartLaws.{length-part, part-part, part-add, part-first, part-peel, part-bytes, splice-part}
-use Rattle.store.proofs.PutLaws.{put-splice, length-put, putAt-put, put-field, put-after-at, part-put-above, put-put}
+use Rattle.store.proofs.LeLaws.{length-bytesLE, length-putAt, one-byte}
+use Rattle.store.proofs.PartLaws.{length-part, part-part, part-add, part-first, part-peel, splice-part}
+use Rattle.store.proofs.PutLaws.{put-splice, put-field, put-after-at, part-put-above}
 use Rattle.page.specs.Header.{withCount}
 use Rattle.page.specs.Key.{flip, keyBytes}
 use Rattle.row.specs.Read.{cellAt}
@@ -31,7 +31,7 @@ use Rattle.leaf.specs.Edit.{gapped, without}
 use Rattle.mvcc.specs.Rules.{ofDeleter}
 use Rattle.mvcc.specs.Vacuum.{dropped, abortedDeleter, fate}
 use Rattle.mvcc.specs.declared.vacuum.Fate.{Fate}
-use Rattle.leaf.specs.Vacuum.{clearedRow, onFate, withoutStamp, Swept, sweep}
+use Rattle.leaf.specs.Vacuum.{clearedRow, withoutStamp, sweep}
 use Rattle.leaf.proofs.Editing.{length-gapped, gap-filled, gap-closed, bodyOf, cell-ends, cell-bytes}
 use Rattle.leaf.proofs.Rowing.{rows-cons, length-rows, rows-read, endOf, rows-bytes}
 use Rattle.leaf.proofs.Walking.{step-cell}
@@ -164,7 +164,7 @@ written h rs h₀ f room =
     }
 
 -- a count over the start of a list
-count-append : (k : ℕ) (h x : List ℕ) → 8 ≤ length h → withCount k (h ++ x) ≡ withCount k h ++ x
+pub count-append : (k : ℕ) (h x : List ℕ) → 8 ≤ length h → withCount k (h ++ x) ≡ withCount k h ++ x
 unfolding putAt
 count-append k h x l =
     let l₀ : 6 < length h = omega arith in
@@ -189,7 +189,7 @@ module _ {h : List ℕ} {r : Row} {rs : List Row} {s : List ℕ} (p : Holds h (r
   bytes-first : part (length h) (rowSize r + length (rowsBytes rs)) s ≡ rowBytes r ++ rowsBytes rs
   bytes-first = rw size-first at (p .there ∙ rows-cons r rs)
 
-  size-row : length (rowBytes r) ≡ rowSize r
+  pub size-row : length (rowBytes r) ≡ rowSize r
   size-row = length-cell (r .key) (r .creator) (r .stamp) (r .pointer) (r .body)
 
   -- the first one is read
