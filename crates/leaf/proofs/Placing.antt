@@ -57,7 +57,7 @@ module _ (t : ℕ) (cut : Cut) where
 
 -- ---- the walk
 
-pub after-append : (t : ℕ) (h : Cutting) (xs ys : List ℕ) → cutAfter t h (xs ++ ys) ≡ cutAfter t (cutAfter t h xs) ys
+after-append : (t : ℕ) (h : Cutting) (xs ys : List ℕ) → cutAfter t h (xs ++ ys) ≡ cutAfter t (cutAfter t h xs) ys
 unfolding cutAfter
 after-append t h [] ys = refl
 after-append t h (x ∷ xs) ys = after-append t (cutStep t h x) xs ys

@@ -38,10 +38,8 @@ fn past(key: u32, creator: u64, here: Place, x: Cell) -> Place
 {
     let v = x.version;
     if crate::in_order(x.key, v.creator, key, creator) {
-        return Place {
-            at: x.next,
-            before: here.before + 1,
-        };
+        let before = here.before + 1;
+        return Place { at: x.next, before };
     }
     here
 }
