@@ -28,7 +28,7 @@ use Rattle.leaf.specs.Edit.{gapped, withStamp}
 put-before-at : (a n : ℕ) (x y s : List ℕ) → n ≤ length s → n ≡ a + length x → put a x (put n y s) ≡ put a (x ++ y) s
 put-before-at a n x y s h e = rw e (put-before a x y s (omega arith))
 
-length-gapped : (a b e m : ℕ) (pg : List ℕ) → length pg ≡ 4096 → a ≤ b → b ≤ e → e ≤ 4096 → a + m + (e - b) ≤ 4096 → length (gapped a b e m pg) ≡ 4096
+pub length-gapped : (a b e m : ℕ) (pg : List ℕ) → length pg ≡ 4096 → a ≤ b → b ≤ e → e ≤ 4096 → a + m + (e - b) ≤ 4096 → length (gapped a b e m pg) ≡ 4096
 unfolding gapped
 length-gapped a b e m pg len h₀ h₁ h₂ h₃ =
     let l : length (part b (e - b) pg) ≡ e - b = length-part b (e - b) pg (omega arith) in

@@ -4,5 +4,8 @@ pub mod Rows
 pub mod Find
 pub mod Place
 pub mod Edit
+pub mod CutFacts
+pub mod Vacuum
+pub mod VacuumFacts
 pub mod Divide
 pub mod EditFacts

@@ -1,13 +1,14 @@
 -- Where a new version goes (document 01, section 5: "after equals of its key and creator"), and where an overfull leaf
 -- is cut ("where the larger side is smallest; the earliest cut wins. Both sides are nonempty"). A cut is a value.
 use mathlib.Core.Bool.{Bool, _&&_}
-use mathlib.Core.List.{List, [], _∷_}
+use mathlib.Core.List.{List, [], _∷_, _++_, map}
 use Prim.Native.Nat.{ℕ, _+_, _-_, max}
 use lib.Dec.{ltb, leb}
 use Rattle.store.specs.Pick.{pick}
 use Rattle.row.specs.declared.Cell.{Cell}
-use Rattle.leaf.specs.Cells.{foldCells, inOrder}
+use Rattle.leaf.specs.Cells.{cellsOf, cells, foldCells, inOrder, judgeLeaf, onJudged}
 use Rattle.leaf.specs.declared.place.Place.{Place}
+use Rattle.leaf.specs.declared.place.LeafPlace.{LeafPlace}
 use Rattle.leaf.specs.declared.place.Cut.{Cut}
 use Rattle.leaf.specs.declared.place.Cutting.{Cutting}
 
@@ -18,6 +19,10 @@ placeStep k c here x = pick (inOrder (x .key) (x .version .creator) k c) (record
 -- the offset past the last such cell, and how many cells stand before it; cells start at 12
 unfoldable pub placeOf : (k c : ℕ) → List Cell → Place
 placeOf k c cs = foldCells (placeStep k c) (record { at = 12; before = 0 }) cs
+
+-- the place in page p, after its judgement, and where its cells end
+unfoldable pub placeLeaf : (p k c : ℕ) → List ℕ → LeafPlace
+placeLeaf p k c pg = onJudged (λ e. LeafPlace.Ok (placeOf k c (cells pg)) e) (λ f. LeafPlace.Bad f) (judgeLeaf p pg)
 
 -- the larger side of a cut, of t bytes in all
 abbrev pub largerSide : ℕ → Cut → ℕ
@@ -39,8 +44,19 @@ unfoldable pub cutAfter : ℕ → Cutting → List ℕ → Cutting
 cutAfter t here [] = here
 cutAfter t here (x ∷ xs) = cutAfter t (cutStep t here x) xs
 
+abbrev pub uncut : Cutting
+uncut = record { left = noCut; best = noCut }
+
 unfoldable pub cutOf : ℕ → List ℕ → Cut
-cutOf t sizes = cutAfter t (record { left = noCut; best = noCut }) sizes .best
+cutOf t sizes = cutAfter t uncut sizes .best
+
+-- the sizes of cells
+abbrev pub sizesOf : List Cell → List ℕ
+sizesOf cs = map (λ c. c .next - c .at) cs
+
+-- of a leaf, t bytes in all, in which a cell of m bytes stands after the first `before` cells, and `after` cells follow from b on
+unfoldable pub cutLeaf : (t before b after m : ℕ) → List ℕ → Cut
+cutLeaf t before b after m pg = cutOf t (sizesOf (cellsOf before 12 pg) ++ (m ∷ sizesOf (cellsOf after b pg)))
 
 -- both sides hold cells and fit a page; otherwise the leaf is Undividable
 unfoldable pub cutFits : ℕ → Cut → Bool

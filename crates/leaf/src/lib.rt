@@ -4,6 +4,7 @@ pub mod divide;
 pub mod edit;
 pub mod find;
 pub mod place;
+pub mod vacuum;
 
 ghost use mathlib.Core.Path.{_≡_};
 ghost use Prim.Native.Nat.{_<_};

@@ -1,0 +1,100 @@
+-- `leaf::place::place_in_leaf` meets its contract: the walk that is left gives what the whole walk gives. Assumes nothing.
+use mathlib.Core.Path.{_≡_, refl, sym, _∙_}
+use Prim.Native.Nat.{_+_, _≤_}
+use native.Mathlib.Omega.{arith}
+use borrow.Author.Needs.{needs}
+use Rattle.leaf.specs.Place.{placeStep, placeOf, placeLeaf}
+use Rattle.leaf.specs.declared.place.LeafPlace.{LeafPlace}
+use Rattle.leaf.proofs.Walking.{walk, walk-bad, walk-in, walk-done, step-next}
+use Rattle.leaf.proofs.Finding.{loop-type, loop-bad, loop-done}
+use Rattle.leaf.proofs.Placing.{place-count}
+use Rattle.leaf.proofs.place.place_in_leaf.Statement.{statement}
+use Rattle.leaf.proofs.place.place_in_leaf.Tie as tie
+
+abbrev Inv-loop : tie.InvT-loop
+Inv-loop pg p key creator left₀ at₀ k₀ c₀ here₀ left at k c here =
+    (at ≤ 4096)
+    × (walk (placeStep key creator) p k c left at here pg ≡ walk (placeStep key creator) p 0 0 left₀ 12 (record { at = 12; before = 0 }) pg)
+    × (here .before + left ≤ left₀)
+
+abbrev μ-loop : tie.MeasureT-loop
+μ-loop pg p key creator left₀ at₀ k₀ c₀ here₀ left at k c here = left
+
+get-node-type-requires : tie.Need-get-node-type-requires Inv-loop μ-loop
+get-node-type-requires c κs = search needs
+
+structural-fault-requires : tie.Need-structural-fault-requires Inv-loop μ-loop
+structural-fault-requires c κs = search needs
+
+returns : tie.Need-returns Inv-loop μ-loop
+unfolding placeLeaf placeOf
+returns c = loop-type (λ e b l. LeafPlace.Ok b e) (λ f. LeafPlace.Bad f) _ _ 0 _ _ (λ e. omega arith) (c .structural-fault .ensures)
+
+get-cell-count-requires : tie.Need-get-cell-count-requires Inv-loop μ-loop
+get-cell-count-requires c κs = search needs
+
+cast-left : tie.Need-cast-left Inv-loop μ-loop
+cast-left c = search needs
+
+loop-holds : tie.Need-loop-holds Inv-loop μ-loop
+loop-holds c = (omega arith, refl, omega arith)
+
+next-cell-requires : tie.Need-next-cell-requires Inv-loop μ-loop
+next-cell-requires c κs = search needs
+
+enum-known-f : tie.Need-enum-known-f Inv-loop μ-loop
+enum-known-f c = search needs
+
+returns-2 : tie.Need-returns-2 Inv-loop μ-loop
+unfolding placeLeaf placeOf
+returns-2 c =
+    loop-bad (λ e b l. LeafPlace.Ok b e) (λ f. LeafPlace.Bad f) _ _ 0 _ _ (omega arith) (c .before .before .before .before .before .before .get-cell-count .ensures)
+    (sym (walk-bad _ _ _ _ _ _ _ _ (search needs) (c .before .before .before .next-cell .ensures) (c .before .f .given .1)) ∙ c .before .before .before .before .before .loop .inv .1)
+
+enum-known-x : tie.Need-enum-known-x Inv-loop μ-loop
+enum-known-x c = search needs
+
+past-requires : tie.Need-past-requires Inv-loop μ-loop
+past-requires c κs = search needs
+
+sub-left : tie.Need-sub-left Inv-loop μ-loop
+sub-left c = search needs
+
+loop-less : tie.Need-loop-less Inv-loop μ-loop
+loop-less c = search needs
+
+loop-again : tie.Need-loop-again Inv-loop μ-loop
+loop-again c = (
+  omega (arith, step-next _ _ _ _ _ (c .before .before .before .before .before .next-cell .ensures) (c .before .before .before .x .given .1)),
+  walk-in _ _ _ _ _ _ _ _ (search needs) (c .before .before .before .before .before .next-cell .ensures) (c .before .before .before .x .given .1) (c .past .ensures)
+      ∙ c .before .before .before .before .before .before .before .loop .inv .1,
+  omega (arith, place-count _ _ _ (c .before .before .before .x .given .0 .0) (c .past .ensures)),
+)
+
+returns-3 : tie.Need-returns-3 Inv-loop μ-loop
+unfolding placeLeaf placeOf
+returns-3 c =
+    loop-done (λ e b l. LeafPlace.Ok b e) (λ f. LeafPlace.Bad f) _ _ 0 _ _ (omega arith) (c .before .before .get-cell-count .ensures)
+    (sym (walk-done _ _ _ _ _ _ _ _ (search needs)) ∙ c .before .loop .inv .1)
+
+pub place-in-leaf-spec : {M : Type 1} → statement M
+place-in-leaf-spec =
+    tie.close
+    (tie.spec
+    Inv-loop
+    μ-loop
+    get-node-type-requires
+    structural-fault-requires
+    returns
+    get-cell-count-requires
+    cast-left
+    loop-holds
+    next-cell-requires
+    enum-known-f
+    returns-2
+    enum-known-x
+    past-requires
+    sub-left
+    loop-less
+    loop-again
+    returns-3)
