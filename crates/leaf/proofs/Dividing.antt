@@ -10,13 +10,12 @@ use lib.Seq.{length-take-le, take-append-le, take-append-add, drop-append-le, dr
 use Rattle.store.specs.Le.{AreBytes, leAt, bytesLE, putAt}
 use Rattle.store.specs.Part.{part, put, zeros, pad, spliced}
 use Rattle.store.proofs.LeLaws.{length-bytesLE, length-putAt, leAt-putAt-below}
-use Rattle.store.proofs.PartLaws.{le-or-lt, getD-part, length-part, part-part, part-add, splice-within}
-use Rattle.store.proofs.PutLaws.{put-def, put-splice, length-put, putAt-put, put-end, part-put-above, length-spliced}
-use Rattle.store.proofs.SeamLaws.{part-left, part-right, part-whole, spliced-before, spliced-new, spliced-after}
-use Rattle.store.proofs.PartLaws.{leAt-same}
+use Rattle.store.proofs.PartLaws.{le-or-lt, getD-part, length-part, leAt-same, part-part, part-add}
+use Rattle.store.proofs.PutLaws.{put-def, put-splice, length-put, putAt-put, part-put-above, length-spliced}
+use Rattle.store.proofs.SeamLaws.{part-left, part-right, part-whole, spliced-before, spliced-new, spliced-after, length-pad, part-pad, put-zeros}
 use Rattle.page.specs.Page.{page, setPage}
 use Rattle.page.specs.Header.{nextLeaf, withNodeType, withCount, withNextLeaf}
-use Rattle.page.proofs.PageLaws.{length-page, length-setPage, page-setPage, page-setPage-other, leAt-page, putAt-page, setPage-setPage}
+use Rattle.page.proofs.PageLaws.{length-page, length-setPage, page-setPage, page-setPage-other, leAt-page, putAt-page, part-page, put-page, setPage-setPage}
 use Rattle.row.specs.Read.{cellAt}
 use Rattle.row.specs.Write.{cellSize, cellBytes}
 use Rattle.row.specs.declared.Stamp.{Stamp}
@@ -28,10 +27,6 @@ use Rattle.leaf.specs.declared.place.Cut.{Cut}
 use Rattle.leaf.proofs.Editing.{grown, stamp-grown, bodyOf, cell-ends, cell-bytes}
 
 -- ---- zeros
-
-pub length-pad : (n : ℕ) (x : List ℕ) → length x ≤ n → length (pad n x) ≡ n
-unfolding pad
-length-pad n x h = rw (length-append, length-replicate) (omega arith)
 
 part-zeros : (a n k : ℕ) → a + n ≤ k → part a n (zeros k) ≡ zeros n
 unfolding part
@@ -63,16 +58,13 @@ module _ (n h c k : ℕ) (hd s : List ℕ) (lh : length hd ≡ h) (fits : c + k 
   lm = rw (length-append, length-part c k s (omega arith), lh)
 
   moved-head : part 0 h (pad n (hd ++ part c k s)) ≡ hd
-  unfolding pad
-  moved-head =
-      part-left 0 h (hd ++ part c k s) (zeros (n - length (hd ++ part c k s))) (omega (arith, lm)) ∙ part-left 0 h hd (part c k s) (omega arith) ∙ part-whole h hd lh
+  moved-head = part-pad n 0 h (hd ++ part c k s) (omega (arith, lm)) ∙ part-left 0 h hd (part c k s) (omega arith) ∙ part-whole h hd lh
 
   -- what stood at j stands at i
   pub moved : (i j m : ℕ) → h ≤ i → j + h ≡ c + i → j + m ≤ c + k → part i m (pad n (hd ++ part c k s)) ≡ part j m s
-  unfolding pad
   moved i j m in₀ e in₁ =
       let f : c + (i - h) ≡ j = omega arith in
-      part-left i m (hd ++ part c k s) (zeros (n - length (hd ++ part c k s))) (omega (arith, lm))
+      part-pad n i m (hd ++ part c k s) (omega (arith, lm))
       ∙ part-right (i - h) m i hd (part c k s) (omega arith)
       ∙ rw f at (part-part c k (i - h) m s (omega arith))
 
@@ -162,19 +154,6 @@ put-comm a b x y s h k =
     let i : b ≡ length u + (b - c) = omega arith in
     rw (← take-append-drop c s, put-left a x u t (omega arith), put-right (b - c) b y (put a x u) t j, put-right (b - c) b y u t i, put-left a x u (put (b - c) y t) (omega arith))
 
-pub put-page : (p b : ℕ) (x s : List ℕ) → p * 4096 + 4096 ≤ length s → b + length x ≤ 4096 → put (p * 4096 + b) x s ≡ setPage p (put b x (page p s)) s
-unfolding page setPage
-put-page p b x s fits h =
-    rw (
-      put-splice (p * 4096 + b) (length x) x s refl,
-      put-splice b (length x) x (part (p * 4096) 4096 s) refl,
-      splice-within (p * 4096) 4096 b (length x) x s fits h refl,
-    )
-
-part-of-page : (p b n : ℕ) (s : List ℕ) → b + n ≤ 4096 → part b n (page p s) ≡ part (p * 4096 + b) n s
-unfolding page
-part-of-page p b n s h = part-part (p * 4096) 4096 b n s h
-
 module _ (p q : ℕ) (x y s : List ℕ) (less : p < q) (fits : q * 4096 + 4096 ≤ length s) (lx : length x ≡ 4096) (ly : length y ≡ 4096) where
   fits-p : p * 4096 + 4096 ≤ length (setPage q y s)
   fits-p = omega (arith, length-setPage q y s fits ly)
@@ -245,7 +224,6 @@ module _ (p q c e : ℕ) (s : List ℕ) (less : p < q) (fits : q * 4096 + 4096 �
 
     pub part-done : {s₁ s₂ s₃ : List ℕ} → page q s ≡ zeros 4096 → s₁ ≡ putAt 1 s (q * 4096) 1 → s₂ ≡ put (q * 4096 + 12) (part (p * 4096 + c) (e - c) s₁) s₁
         → s₃ ≡ put (p * 4096 + c) (zeros (p * 4096 + 4096 - (p * 4096 + c))) s₂ → s₃ ≡ parted p q c e s
-    unfolding pad
     part-done {s₁} {s₂} {s₃} z f g k =
         let leaf = withNodeType 1 (page q s) in
         let t = part c (e - c) (page p s) in
@@ -254,21 +232,19 @@ module _ (p q c e : ℕ) (s : List ℕ) (less : p < q) (fits : q * 4096 + 4096 �
         let lt : length t ≡ e - c = length-part c (e - c) (page p s) (omega (arith, len-p)) in
         let l₁ : length (setPage q leaf s) ≡ length s = length-setPage q leaf s fits len-leaf in
         let p₁ : page p (setPage q leaf s) ≡ page p s = page-setPage-other q leaf s fits len-leaf p (λ o. omega arith) in
-        let t₁ : part (p * 4096 + c) (e - c) (setPage q leaf s) ≡ t = sym (part-of-page p c (e - c) (setPage q leaf s) (omega arith)) ∙ ap (part c (e - c)) p₁ in
+        let t₁ : part (p * 4096 + c) (e - c) (setPage q leaf s) ≡ t = part-page p c (e - c) (setPage q leaf s) (omega arith) ∙ ap (part c (e - c)) p₁ in
         let g₁ : s₂ ≡ setPage q (movedOver p q c e s) s
         = g ∙ rw (f₁, t₁, put-page q 12 t (setPage q leaf s) (omega arith) (omega arith), page-setPage q leaf s fits len-leaf, setPage-setPage q leaf (put 12 t leaf) s fits len-leaf, put-fresh 4096 12 t leaf len-leaf (omega arith) (fresh-zeros 4096 refl z)) in
         let l₂ : length (setPage q (movedOver p q c e s) s) ≡ length s = length-setPage q (movedOver p q c e s) s fits length-moved in
         let p₂ : page p (setPage q (movedOver p q c e s) s) ≡ page p s = page-setPage-other q (movedOver p q c e s) s fits length-moved p (λ o. omega arith) in
         let j : p * 4096 + 4096 - (p * 4096 + c) ≡ 4096 - c = omega arith in
-        let w : length (part 0 c (page p s)) ≡ c = length-part 0 c (page p s) (omega (arith, len-p)) in
         k
         ∙ rw (
           g₁,
           j,
           put-page p c (zeros (4096 - c)) (setPage q (movedOver p q c e s) s) (omega arith) (rw length-replicate (omega arith)),
           p₂,
-          put-end c (zeros (4096 - c)) (page p s) (omega (arith, len-p)) (rw length-replicate (omega (arith, len-p))),
-          w,
+          put-zeros 4096 c (page p s) len-p (omega arith),
         )
 
 -- count and link of a page, stored in the pool

@@ -12,12 +12,10 @@ use lib.ListN.{length, take, drop, length-append, length-map, take-append-drop}
 use Rattle.store.specs.Pick.{pick}
 use Rattle.store.specs.Le.{AreBytes, bytesLE}
 use Rattle.store.specs.Part.{part, zeros, pad, spliced}
-use Rattle.store.proofs.PartLaws.{le-or-lt, length-part, part-part, part-add, part-bytes}
-use Rattle.store.proofs.PutLaws.{putAt-put, part-put-above}
+use Rattle.store.proofs.PartLaws.{le-or-lt, length-part, leAt-same, part-part, part-add, part-bytes}
+use Rattle.store.proofs.PutLaws.{putAt-put, put-part, part-put-above}
 use Rattle.store.proofs.LeLaws.{length-bytesLE, length-putAt, leAt-putAt, leAt-putAt-below, leAt-putAt-above}
-use Rattle.store.proofs.SeamLaws.{part-left, part-right, part-whole}
-use Rattle.store.proofs.PutLaws.{put-part}
-use Rattle.store.proofs.PartLaws.{leAt-same}
+use Rattle.store.proofs.SeamLaws.{part-left, part-right, part-whole, length-pad, part-pad}
 use Rattle.page.specs.Header.{nodeType, cellCount, withNodeType, withCount, withNextLeaf}
 use Rattle.row.specs.Read.{cellAt}
 use Rattle.row.specs.declared.Cell.{Cell}
@@ -35,7 +33,7 @@ use Rattle.leaf.specs.declared.place.Place.{Place}
 use Rattle.leaf.specs.declared.place.Cut.{Cut}
 use Rattle.leaf.proofs.Walking.{step-cell, order-more, order-same}
 use Rattle.leaf.proofs.Rowing.{length-rows, rows-read, endOf, rows-bytes}
-use Rattle.leaf.proofs.Dividing.{length-pad, spliced-is}
+use Rattle.leaf.proofs.Dividing.{spliced-is}
 
 -- ---- chains
 
@@ -185,16 +183,14 @@ module _ (pg x : List ℕ) (len : length pg ≡ 4096) where
 
   -- the header's bytes are the page's
   head-kept : (k n : ℕ) → k + n ≤ 12 → part k n (pad 4096 (part 0 12 pg ++ x)) ≡ part k n pg
-  unfolding pad
   head-kept k n h =
       let z : 0 + k ≡ k = omega arith in
-      part-left k n (part 0 12 pg ++ x) (zeros (4096 - length (part 0 12 pg ++ x))) (rw length-append (omega (arith, head-length)))
+      part-pad 4096 k n (part 0 12 pg ++ x) (rw length-append (omega (arith, head-length)))
       ∙ (part-left k n (part 0 12 pg) x (omega (arith, head-length)) ∙ rw z at (part-part 0 12 k n pg h))
 
   body-there : part 12 (length x) (pad 4096 (part 0 12 pg ++ x)) ≡ x
-  unfolding pad
   body-there =
-      part-left 12 (length x) (part 0 12 pg ++ x) (zeros (4096 - length (part 0 12 pg ++ x))) (rw length-append (omega (arith, head-length)))
+      part-pad 4096 12 (length x) (part 0 12 pg ++ x) (rw length-append (omega (arith, head-length)))
       ∙ (part-right 0 (length x) 12 (part 0 12 pg) x (omega (arith, head-length)) ∙ part-whole (length x) x refl)
 
   body-long : 12 ≤ length (pad 4096 (part 0 12 pg ++ x))

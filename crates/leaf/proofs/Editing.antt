@@ -9,9 +9,8 @@ use borrow.Rule.Slice.PartMut.{midOf, putMid}
 use Rattle.store.specs.Le.{AreBytes, bytesLE, putAt}
 use Rattle.store.specs.Part.{part, put, zeros, pad, spliced}
 use Rattle.store.proofs.LeLaws.{length-bytesLE, one-byte}
-use Rattle.store.proofs.PartLaws.{length-part, splice-part, part-add, part-first, part-peel}
-use Rattle.store.proofs.PutLaws.{put-splice, put-nil, length-put, putAt-put, put-field, put-before, put-after-at, put-end, part-put-below, part-put-above, tail-back, splice-done}
-use Rattle.store.proofs.PutLaws.{put-part}
+use Rattle.store.proofs.PartLaws.{length-part, part-add, part-first, part-peel}
+use Rattle.store.proofs.PutLaws.{put-part, put-nil, length-put, putAt-put, put-field, put-before, put-after-at, put-end, part-put-below, part-put-above, tail-back, splice-done}
 use Rattle.page.specs.Key.{flip, keyBytes}
 use Rattle.row.specs.Read.{cellAt}
 use Rattle.row.specs.Write.{stampLen, pointerLen, stampBytes, pointerBytes, cellSize, headBytes, cellBytes}
@@ -77,8 +76,7 @@ put-inside : (a k : ℕ) (y s : List ℕ) → a + k + length y ≤ length s → 
 put-inside a k y s h =
     let l : length (part a k s) ≡ k = length-part a k s (omega arith) in
     let w : part a k (put (a + k) y s) ≡ part a k s = part-put-below (a + k) y s (omega arith) a k (omega arith) in
-    let u : put a (part a k s) (put (a + k) y s) ≡ put (a + k) y s =
-    put-splice a k (part a k s) (put (a + k) y s) l ∙ rw (← w) (splice-part a k (put (a + k) y s)) in
+    let u : put a (part a k s) (put (a + k) y s) ≡ put (a + k) y s = rw (← w) (put-part a k (put (a + k) y s) (omega (arith, length-put (a + k) y s h))) in
     sym u ∙ put-before-at a (a + k) (part a k s) y s (omega arith) (omega arith)
 
 -- the stores over the head of a live cell that is stamped by d, and with the gap that they fill
