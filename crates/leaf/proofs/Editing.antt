@@ -2,15 +2,16 @@
 -- Assumes nothing.
 use mathlib.Core.Path.{_≡_, refl, sym, ap, _∙_}
 use mathlib.Core.List.{List, [], _∷_, _++_, append-assoc}
-use Prim.Native.Nat.{ℕ, _+_, _-_, _≤_, _<_}
+use Prim.Native.Nat.{ℕ, _+_, _-_, _≤_}
 use native.Mathlib.Omega.{arith}
 use lib.ListN.{length, length-append, length-replicate}
 use borrow.Rule.Slice.PartMut.{midOf, putMid}
 use Rattle.store.specs.Le.{AreBytes, bytesLE, putAt}
-use Rattle.store.specs.Part.{part, splice, put, zeros, pad, spliced}
+use Rattle.store.specs.Part.{part, put, zeros, pad, spliced}
 use Rattle.store.proofs.LeLaws.{length-bytesLE, one-byte}
 use Rattle.store.proofs.PartLaws.{length-part, splice-part, part-add, part-first, part-peel}
 use Rattle.store.proofs.PutLaws.{put-splice, put-nil, length-put, putAt-put, put-field, put-before, put-after-at, put-end, part-put-below, part-put-above, tail-back, splice-done}
+use Rattle.store.proofs.SeamLaws.{put-part}
 use Rattle.page.specs.Key.{flip, keyBytes}
 use Rattle.row.specs.Read.{cellAt}
 use Rattle.row.specs.Write.{stampLen, pointerLen, stampBytes, pointerBytes, cellSize, headBytes, cellBytes}
@@ -18,7 +19,7 @@ use Rattle.row.specs.declared.Stamp.{Stamp}
 use Rattle.row.specs.declared.Pointer.{Pointer}
 use Rattle.row.specs.declared.Cell.{Cell}
 use Rattle.row.specs.declared.read.CellRead.{CellRead}
-use Rattle.row.proofs.Writing.{length-head, length-stamp, length-cell}
+use Rattle.row.proofs.Writing.{length-head, length-stamp}
 use Rattle.row.proofs.Exact.{read-is-written, cell-placed}
 use Rattle.leaf.specs.Edit.{gapped, withStamp}
 
@@ -27,7 +28,7 @@ use Rattle.leaf.specs.Edit.{gapped, withStamp}
 put-before-at : (a n : ℕ) (x y s : List ℕ) → n ≤ length s → n ≡ a + length x → put a x (put n y s) ≡ put a (x ++ y) s
 put-before-at a n x y s h e = rw e (put-before a x y s (omega arith))
 
-pub length-gapped : (a b e m : ℕ) (pg : List ℕ) → length pg ≡ 4096 → a ≤ b → b ≤ e → e ≤ 4096 → a + m + (e - b) ≤ 4096 → length (gapped a b e m pg) ≡ 4096
+length-gapped : (a b e m : ℕ) (pg : List ℕ) → length pg ≡ 4096 → a ≤ b → b ≤ e → e ≤ 4096 → a + m + (e - b) ≤ 4096 → length (gapped a b e m pg) ≡ 4096
 unfolding gapped
 length-gapped a b e m pg len h₀ h₁ h₂ h₃ =
     let l : length (part b (e - b) pg) ≡ e - b = length-part b (e - b) pg (omega arith) in
@@ -80,7 +81,13 @@ put-inside a k y s h =
     put-splice a k (part a k s) (put (a + k) y s) l ∙ rw (← w) (splice-part a k (put (a + k) y s)) in
     sym u ∙ put-before-at a (a + k) (part a k s) y s (omega arith) (omega arith)
 
--- the stores over the head of a live cell that is stamped by d
+-- the stores over the head of a live cell that is stamped by d, and with the gap that they fill
+abbrev pub headStored : (at n d : ℕ) → List ℕ → List ℕ
+headStored at n d s = putAt 8 (putAt 1 (putAt 4 s (at + 4) n) (at + 17) 1) (at + 18) d
+
+abbrev pub grown : (at e n d : ℕ) → List ℕ → List ℕ
+grown at e n d pg = headStored at n d (gapped (at + 18) (at + 18) e 8 pg)
+
 module _ (at key creator n₀ : ℕ) (s : List ℕ) where
   head-key : part at 18 s ≡ headBytes key n₀ creator ++ (0 ∷ []) → part at 4 s ≡ keyBytes key
   unfolding headBytes
@@ -98,7 +105,7 @@ module _ (at key creator n₀ : ℕ) (s : List ℕ) where
       rw i at e₃
 
   head-stamped : (n d : ℕ) → at + 26 ≤ length s → part at 18 s ≡ headBytes key n₀ creator ++ (0 ∷ [])
-      → putAt 8 (putAt 1 (putAt 4 s (at + 4) n) (at + 17) 1) (at + 18) d ≡ put at (headBytes key n creator ++ stampBytes (Stamp.By d)) s
+      → headStored at n d s ≡ put at (headBytes key n creator ++ stampBytes (Stamp.By d)) s
   unfolding headBytes
   head-stamped n d h e =
       let mid : List ℕ = 129 ∷ bytesLE 8 creator in
@@ -154,8 +161,7 @@ module _ (at e key creator d : ℕ) (pt : Pointer) (body pg : List ℕ) (len : l
   -- a live cell grows
   pub stamp-grown : (n : ℕ) → at + cellSize Stamp.Absent pt (length body) ≤ e → e + 8 ≤ 4096 → n ≡ 18 + pointerLen pt + length body
       → part at (cellSize Stamp.Absent pt (length body)) pg ≡ cellBytes key creator Stamp.Absent pt body
-      → putAt 8 (putAt 1 (putAt 4 (gapped (at + 18) (at + 18) e 8 pg) (at + 4) n) (at + 17) 1) (at + 18) d
-      ≡ pad 4096 (spliced at (at + cellSize Stamp.Absent pt (length body)) e (cellBytes key creator (Stamp.By d) pt body) pg)
+      → grown at e n d pg ≡ pad 4096 (spliced at (at + cellSize Stamp.Absent pt (length body)) e (cellBytes key creator (Stamp.By d) pt body) pg)
   stamp-grown n h k i q =
       let g = gapped (at + 18) (at + 18) e 8 pg in
       let lg : length g ≡ 4096 = length-gapped (at + 18) (at + 18) e 8 pg len (omega arith) (omega arith) (omega arith) (omega arith) in
@@ -167,7 +173,7 @@ module _ (at e key creator d : ℕ) (pt : Pointer) (body pg : List ℕ) (len : l
       ∙ rw i (ap (pad 4096) (whole-cell Stamp.Absent h q))
 
   -- a stamp over a stamp
-  pub stamp-kept : (t : ℕ) → at + cellSize (Stamp.By t) pt (length body) ≤ e → e ≤ 4096
+  stamp-kept : (t : ℕ) → at + cellSize (Stamp.By t) pt (length body) ≤ e → e ≤ 4096
       → part at (cellSize (Stamp.By t) pt (length body)) pg ≡ cellBytes key creator (Stamp.By t) pt body
       → put e (zeros (4096 - e)) (putAt 8 pg (at + 18) d)
       ≡ pad 4096 (spliced at (at + cellSize (Stamp.By t) pt (length body)) e (cellBytes key creator (Stamp.By d) pt body) pg)
@@ -181,8 +187,7 @@ module _ (at e key creator d : ℕ) (pt : Pointer) (body pg : List ℕ) (len : l
       let stored : putAt 8 pg (at + 18) d ≡ put at x pg
       = putAt-put 8 (at + 18) d pg (omega arith) ∙ put-inside at 18 (bytesLE 8 d) pg (rw length-bytesLE (omega arith)) ∙ rw first (simp append-assoc) in
       let j : at + 26 + (e - (at + 26)) ≡ e = omega arith in
-      let still : pg ≡ put (at + length x) (part (at + 26) (e - (at + 26)) pg) pg
-      = sym (rw lx (put-splice (at + 26) (e - (at + 26)) (part (at + 26) (e - (at + 26)) pg) pg (length-part (at + 26) (e - (at + 26)) pg (omega arith)) ∙ splice-part (at + 26) (e - (at + 26)) pg)) in
+      let still : pg ≡ put (at + length x) (part (at + 26) (e - (at + 26)) pg) pg = sym (rw lx (put-part (at + 26) (e - (at + 26)) pg (omega arith))) in
       let z : put e (zeros (4096 - e)) (put at x pg) ≡ put (at + length x + (e - (at + 26))) (zeros (length pg - (at + length x + (e - (at + 26))))) (put at x pg) = rw (lx, len, j) in
       let done : put e (zeros (4096 - e)) (put at x pg) ≡ pad 4096 (spliced at (at + 26) e x pg)
       = rw len at (z ∙ splice-done pg at (at + 26) e x (omega arith) (omega arith) (omega arith) (omega arith) still refl refl) in
@@ -205,7 +210,7 @@ module _ (c : Cell) (pg : List ℕ) (B : AreBytes pg) (got : cellAt pg (c .at) �
       rw (← e, length-part (c .version .start) (c .version .len) pg (omega arith)) (read-is-written pg (c .at) c B got .bytes)
 
   pub withStamp-grown : (e d n : ℕ) → length pg ≡ 4096 → c .version .stamp ≡ Stamp.Absent → c .next ≤ e → e + 8 ≤ 4096 → n ≡ c .next - c .at
-      → putAt 8 (putAt 1 (putAt 4 (gapped (c .at + 18) (c .at + 18) e 8 pg) (c .at + 4) n) (c .at + 17) 1) (c .at + 18) d ≡ withStamp d e c pg
+      → grown (c .at) e n d pg ≡ withStamp d e c pg
   unfolding withStamp
   withStamp-grown e d n len st h k i =
       let u = cell-ends st in

@@ -7,3 +7,5 @@ pub mod CutFacts
 pub mod Editing
 pub mod Sweeping
 pub mod VacuumFacts
+pub mod Dividing
+pub mod EditFacts

@@ -1,5 +1,6 @@
 // One leaf page (document 01, sections 2, 3 and 5; btree.rs): its judgement. Module place says where a new cell goes and
 // where a leaf is cut, module edit changes a page in place.
+pub mod divide;
 pub mod edit;
 pub mod find;
 pub mod place;

@@ -1,3 +1,4 @@
 pub mod LeLaws
 pub mod PartLaws
 pub mod PutLaws
+pub mod SeamLaws

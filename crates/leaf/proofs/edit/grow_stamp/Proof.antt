@@ -1,3 +1,4 @@
+use mathlib.Core.Path.{_∙_}
 use borrow.Author.Needs.{needs}
 use Rattle.leaf.proofs.edit.grow_stamp.Statement.{statement}
 use Rattle.leaf.proofs.edit.grow_stamp.Tie as tie
@@ -33,7 +34,7 @@ same-length : tie.Need-same-length
 same-length c = search needs
 
 returns : tie.Need-returns
-returns c = cc
+returns c = c .before .before .put64 .ensures ∙ rw (c .before .before .before .before .before .before .put8 .ensures, c .before .before .before .before .before .before .before .before .before .before .put32 .ensures, c .before .before .before .before .before .before .before .before .before .before .before .before .before .before .open-gap .ensures)
 
 pub grow-stamp-spec : {M : Type 1} → statement M
 grow-stamp-spec =

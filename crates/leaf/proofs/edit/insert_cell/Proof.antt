@@ -1,4 +1,5 @@
 use Rattle.leaf.specs.Edit.{withCell}
+use mathlib.Core.Path.{_∙_}
 use borrow.Author.Needs.{needs}
 use Rattle.leaf.proofs.edit.insert_cell.Statement.{statement}
 use Rattle.leaf.proofs.edit.insert_cell.Tie as tie
@@ -20,7 +21,7 @@ same-length c = search needs
 
 returns : tie.Need-returns
 unfolding withCell
-returns c = cc
+returns c = c .before .before .set-cell-count .ensures ∙ rw (c .before .before .before .before .before .before .put-cell .ensures)
 
 pub insert-cell-spec : {M : Type 1} → statement M
 insert-cell-spec =

@@ -1,4 +1,5 @@
 use Rattle.leaf.specs.Edit.{gapped}
+use mathlib.Core.Path.{_∙_}
 use borrow.Author.Needs.{needs}
 use Rattle.leaf.proofs.edit.open_gap.Statement.{statement}
 use Rattle.leaf.proofs.edit.open_gap.Tie as tie
@@ -26,7 +27,7 @@ same-length c = search needs
 
 returns : tie.Need-returns
 unfolding gapped
-returns c = cc
+returns c = c .before .before .zero-fill .ensures ∙ rw (c .before .before .before .before .before .before .shift .ensures)
 
 pub open-gap-spec : {M : Type 1} → statement M
 open-gap-spec =

@@ -63,7 +63,7 @@ returns c =
     let k = c .before .before .before .before .before .before .before .before .before .before .before in
     let w = cell-ends (k .before .args .c) (now (k .before .args .pg)) (λ i. (k .slice-known .given i) .fits) (k .before .pre .1) (c .before .before .before .before .before .before .before .before .enum-told .given .1) in
     let l = stamp-present (c .before .before .before .before .before .before .before .before .enum-told .given .1) in
-    cc (withStamp-kept (k .before .args .c) (now (k .before .args .pg)) (λ i. (k .slice-known .given i) .fits) (k .before .pre .1) (k .before .args .e) (k .before .args .d) (omega arith) (c .before .before .before .before .before .before .before .before .enum-told .given .1) (omega arith) (omega arith))
+    c .before .before .zero-fill .ensures ∙ rw (c .before .before .before .before .before .before .put64 .ensures) (withStamp-kept (k .before .args .c) (now (k .before .args .pg)) (λ i. (k .slice-known .given i) .fits) (k .before .pre .1) (k .before .args .e) (k .before .args .d) (omega arith) (c .before .before .before .before .before .before .before .before .enum-told .given .1) (omega arith) (omega arith))
 
 same-length-2 : tie.Need-same-length-2
 same-length-2 c = search needs

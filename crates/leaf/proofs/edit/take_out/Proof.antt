@@ -1,3 +1,4 @@
+use mathlib.Core.Path.{_∙_}
 use denote.Ref.{now}
 use native.Mathlib.Omega.{arith}
 use Rattle.leaf.specs.Edit.{without}
@@ -25,7 +26,8 @@ returns : tie.Need-returns
 unfolding without
 returns c =
     let a = c .before .before .before .before .before .before .before .before .before .args in
-    cc (gap-closed (a .a) (a .b) (a .e) (now (a .pg)) (omega arith) (omega arith) (omega arith) (omega arith))
+    c .before .before .set-cell-count .ensures
+    ∙ rw (c .before .before .before .before .before .before .open-gap .ensures, gap-closed (a .a) (a .b) (a .e) (now (a .pg)) (omega arith) (omega arith) (omega arith) (omega arith))
 
 pub take-out-spec : {M : Type 1} → statement M
 take-out-spec =
