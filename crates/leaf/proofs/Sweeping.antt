@@ -6,15 +6,16 @@ use mathlib.Core.List.{List, [], _∷_, _++_, append-assoc}
 use Prim.Native.Nat.{ℕ, zero, suc, _+_, _-_, _/_, _%_, _≤_, _<_}
 use native.Mathlib.Nat.{zero-add}
 use native.Mathlib.Omega.{arith}
-use lib.ListN.{length, set, drop, length-append, length-drop, length-replicate, length-set}
-use lib.Seq.{take-append-le, drop-append-le, set-append-left, set-set, set-comm, take-at, drop-at}
+use lib.ListN.{length, set, length-append, length-replicate, length-set}
+use lib.Seq.{set-append-left, set-set, set-comm, take-at, drop-at}
 use Rattle.store.specs.Pick.{pick}
 use Rattle.store.specs.Le.{AreBytes, bytesLE, putAt}
-use Rattle.store.specs.Part.{part, splice, put, zeros, pad, spliced}
+use Rattle.store.specs.Part.{part, put, zeros, pad, spliced}
 use Rattle.store.proofs.LeLaws.{length-bytesLE, length-putAt, one-byte}
-use Rattle.store.proofs.PartLaws.{length-part, part-part, part-add, part-first, part-peel, splice-part}
-use Rattle.store.proofs.PutLaws.{put-splice, put-field, put-after-at, part-put-above}
-use Rattle.page.specs.Header.{withCount}
+use Rattle.store.proofs.PartLaws.{length-part, part-add, part-first, part-peel}
+use Rattle.store.proofs.SeamLaws.{part-left, spliced-before, length-pad}
+use Rattle.store.proofs.PutLaws.{length-put, length-spliced, put-field, put-after-at, part-put-above, put-part}
+use Rattle.page.specs.Header.{cellCount, withCount}
 use Rattle.page.specs.Key.{flip, keyBytes}
 use Rattle.row.specs.Read.{cellAt}
 use Rattle.row.specs.Write.{stampLen, pointerLen, stampBytes, pointerBytes, cellSize, headBytes, cellBytes}
@@ -24,41 +25,38 @@ use Rattle.row.specs.declared.Pointer.{Pointer}
 use Rattle.row.specs.declared.Cell.{Cell}
 use Rattle.row.specs.declared.read.CellRead.{CellRead}
 use Rattle.row.proofs.Writing.{stamp-len, pointer-len, length-head, length-cell}
-use Rattle.row.proofs.Exact.{written-is-read, read-is-written, cell-placed}
-use Rattle.leaf.specs.Cells.{cellsOf, stepOf, onStep, judgeCells}
-use Rattle.leaf.specs.Rows.{Row, RowFits, AllFit, rowOf, rowsOf, rowSize, rowBytes, rowsBytes}
+use Rattle.row.proofs.Exact.{written-is-read}
+use Rattle.leaf.specs.Cells.{cells, cellsOf}
+use Rattle.leaf.specs.Rows.{Row, AllFit, rowOf, rows, rowSize, rowBytes, rowsBytes}
 use Rattle.leaf.specs.Edit.{gapped, without}
 use Rattle.mvcc.specs.Rules.{ofDeleter}
 use Rattle.mvcc.specs.Vacuum.{dropped, abortedDeleter, fate}
 use Rattle.mvcc.specs.declared.vacuum.Fate.{Fate}
 use Rattle.leaf.specs.Vacuum.{clearedRow, withoutStamp, sweep}
-use Rattle.leaf.proofs.Editing.{length-gapped, gap-filled, gap-closed, bodyOf, cell-ends, cell-bytes}
-use Rattle.leaf.proofs.Rowing.{rows-cons, length-rows, rows-read, endOf, rows-bytes}
-use Rattle.leaf.proofs.Walking.{step-cell}
-use Rattle.leaf.specs.declared.Step.{Step}
-use Rattle.leaf.specs.declared.Judged.{Judged}
+use Rattle.leaf.specs.EditFacts.{Sound}
+use Rattle.leaf.proofs.EditFacts.{rows-fill, split-at}
+use Rattle.leaf.proofs.Editing.{gap-filled, gap-closed, bodyOf, cell-ends, cell-bytes}
+use Rattle.leaf.proofs.Rowing.{rows-cons, length-rows, rows-read, endOf}
 
 -- ---- a stamp taken off
 
 -- a store of what stands there
-put-same : (a : ℕ) (x s : List ℕ) → part a (length x) s ≡ x → put a x s ≡ s
-put-same a x s e = put-splice a (length x) x s refl ∙ (ap (λ (y : List ℕ). splice a (length x) y s) (sym e) ∙ splice-part a (length x) s)
+put-same : (a n : ℕ) (x s : List ℕ) → a + n ≤ length s → part a n s ≡ x → put a x s ≡ s
+put-same a n x s h e = ap (λ (y : List ℕ). put a y s) (sym e) ∙ put-part a n s h
 
-part-inside : (a n : ℕ) (x y : List ℕ) → a + n ≤ length x → part a n (x ++ y) ≡ part a n x
-unfolding part
-part-inside a n x y h =
-    let k : a ≤ length x = omega arith in
-    let l : n ≤ length (drop a x) = rw length-drop (omega arith) in
-    rw (drop-append-le a x y k, take-append-le n (drop a x) y l)
+-- the page with bytes out, and what stands before them
+module _ (a b e : ℕ) (pg : List ℕ) (len : length pg ≡ 4096) (in₀ : a ≤ b) (in₁ : b ≤ e) (in₂ : e ≤ 4096) where
+  length-closed : length (gapped a b e 0 pg) ≡ 4096
+  length-closed =
+      let l = length-spliced a b e [] pg in₀ in₁ (omega arith) in
+      ap length (gap-closed a b e pg len in₀ in₁ in₂) ∙ length-pad 4096 (spliced a b e [] pg) (omega arith)
 
--- what stands before the bytes that are out
-part-closed : (a b e k n : ℕ) (pg : List ℕ) → length pg ≡ 4096 → a ≤ b → b ≤ e → e ≤ 4096 → k + n ≤ a → part k n (gapped a b e 0 pg) ≡ part k n pg
-unfolding pad spliced
-part-closed a b e k n pg len h₀ h₁ h₂ h =
-    let l : length (part 0 a pg) ≡ a = length-part 0 a pg (omega arith) in
-    let T = [] ++ part b (e - b) pg in
-    rw (gap-closed a b e pg len h₀ h₁ h₂, append-assoc (part 0 a pg) T (zeros (4096 - length (part 0 a pg ++ T))), part-inside k n (part 0 a pg) _ (omega arith))
-    (rw zero-add at (part-part 0 a k n pg h))
+  part-closed : (k n : ℕ) → k + n ≤ a → part k n (gapped a b e 0 pg) ≡ part k n pg
+  unfolding pad
+  part-closed k n h =
+      let l = length-spliced a b e [] pg in₀ in₁ (omega arith) in
+      ap (part k n) (gap-closed a b e pg len in₀ in₁ in₂)
+      ∙ (part-left k n (spliced a b e [] pg) (zeros (4096 - length (spliced a b e [] pg))) (omega arith) ∙ spliced-before a b e [] pg in₀ in₁ (omega arith) k n h)
 
 module _ (at key creator n₀ : ℕ) (s : List ℕ) where
   -- the stores over a head: its length, and a flag after it
@@ -76,9 +74,10 @@ module _ (at key creator n₀ : ℕ) (s : List ℕ) where
       let l₁ : length x₁ ≡ 8 = simp (length-append, length-bytesLE) in
       let lm : length mid ≡ 9 = simp length-bytesLE in
       let p₁ : putAt 4 s (at + 4) n ≡ put at x₁ s
-      = ap (λ (z : List ℕ). putAt 4 z (at + 4) n) (sym (put-same at (keyBytes key) s (rw lk e₁))) ∙ put-field 4 at (at + 4) n (keyBytes key) s (omega arith) (omega arith) in
-      let v : part (at + 8) (length mid) (put at x₁ s) ≡ mid = rw lm (part-put-above at x₁ s (omega arith) (at + 8) 9 (omega arith) ∙ e₃) in
-      let p₂ : put at x₁ s ≡ put at (x₁ ++ mid) s = sym (put-same (at + 8) mid (put at x₁ s) v) ∙ put-after-at at (at + 8) x₁ mid s (omega arith) (omega arith) in
+      = ap (λ (z : List ℕ). putAt 4 z (at + 4) n) (sym (put-same at 4 (keyBytes key) s (omega arith) e₁)) ∙ put-field 4 at (at + 4) n (keyBytes key) s (omega arith) (omega arith) in
+      let v : part (at + 8) 9 (put at x₁ s) ≡ mid = part-put-above at x₁ s (omega arith) (at + 8) 9 (omega arith) ∙ e₃ in
+      let w : length (put at x₁ s) ≡ length s = length-put at x₁ s (omega arith) in
+      let p₂ : put at x₁ s ≡ put at (x₁ ++ mid) s = sym (put-same (at + 8) 9 mid (put at x₁ s) (omega arith) v) ∙ put-after-at at (at + 8) x₁ mid s (omega arith) (omega arith) in
       let l₂ : at + 17 ≡ at + length (x₁ ++ mid) = rw (length-append x₁ mid) (omega arith) in
       rw (p₁, p₂, put-field 1 at (at + 17) 0 (x₁ ++ mid) s l₂ (omega arith), one-byte 0 (omega arith))
       (ap (λ (z : List ℕ). put at (z ++ (0 ∷ [])) s) (append-assoc (keyBytes key) (bytesLE 4 n) mid))
@@ -103,11 +102,11 @@ cell-cleared at e n key creator d pt body pg len h k i q =
     let j : at + 17 + 9 ≡ at + 26 = omega arith in
     let q₃ : part (at + 26) m pg ≡ rest = rw j at (part-peel (at + 17) 9 m (stampBytes (Stamp.By d)) rest pg ls q₂) in
     let g = gapped (at + 18) (at + 26) e 0 pg in
-    let lg : length g ≡ 4096 = length-gapped (at + 18) (at + 26) e 0 pg len (omega arith) (omega arith) (omega arith) (omega arith) in
+    let lg : length g ≡ 4096 = length-closed (at + 18) (at + 26) e pg len (omega arith) (omega arith) k in
     let x = headBytes key n creator ++ (0 ∷ []) in
     let lx : length x ≡ 18 = rw (length-append, length-head) in
     let stored : putAt 1 (putAt 4 g (at + 4) n) (at + 17) 0 ≡ pad 4096 (spliced at (at + 26) e x pg)
-    = head-cleared at key creator N g n (omega arith) (part-closed (at + 18) (at + 26) e at 17 pg len (omega arith) (omega arith) (omega arith) (omega arith) ∙ q₁)
+    = head-cleared at key creator N g n (omega arith) (part-closed (at + 18) (at + 26) e pg len (omega arith) (omega arith) k at 17 (omega arith) ∙ q₁)
     ∙ gap-filled at (at + 18) (at + 26) e 0 x pg len (omega arith) (omega arith) (omega arith) (omega arith) (omega arith) (omega arith) in
     stored ∙ ap (pad 4096) (more next m rest q₃ (omega arith) (omega arith))
   where
@@ -246,46 +245,6 @@ module _ {h : List ℕ} {r : Row} {rs : List Row} {s : List ℕ} (p : Holds h (r
 
 -- ---- a leaf that was judged
 
--- its cells are all there, from `at` to e, and their rows fit
-record Read (s : List ℕ) (n at e : ℕ) : Type 0 where
-  count : length (rowsOf n at s) ≡ n
-  ends : endOf at (cellsOf n at s) ≡ e
-  above : at ≤ e
-  inside : e ≤ length s
-  fits : AllFit (rowsOf n at s)
-
-row-fits : (s : List ℕ) (at : ℕ) (c : Cell) → AreBytes s → cellAt s at ≡ CellRead.Got c → RowFits (rowOf s c)
-row-fits s at c B e =
-    let w = read-is-written s at c B e in
-    let p = cell-placed s at c e in
-    record {
-      key = w .key-fits;
-      creator = w .creator-fits;
-      stamp = w .stamp-fits;
-      pointer = w .pointer-fits;
-      body = rw (length-part (c .version .start) (c .version .len) s (omega (arith, p .whole, p .inside))) (w .few);
-    }
-
-judged-read : (s : List ℕ) → AreBytes s → (p k c n at : ℕ) {e : ℕ} → at ≤ length s → judgeCells p k c n at s ≡ Judged.Ok e → Read s n at e
-unfolding judgeCells cellsOf endOf
-judged-read s B p k c zero at {e} h j = let q : at ≡ e = cc in record { count = refl; ends = q; above = omega arith; inside = omega arith; fits = tt }
-judged-read s B p k c (suc n) at {e} h j = by-step (stepOf p k c at s) refl j (λ x l q. judged-read s B p (x .key) (x .version .creator) n (x .next) l q)
-  where
-    by-step : (r : Step) → stepOf p k c at s ≡ r → onStep (λ x. judgeCells p (x .key) (x .version .creator) n (x .next) s) (λ f. Judged.Bad f) r ≡ Judged.Ok e
-        → ((x : Cell) → x .next ≤ length s → judgeCells p (x .key) (x .version .creator) n (x .next) s ≡ Judged.Ok e → Read s n (x .next) e) → Read s (suc n) at e
-    by-step (Step.Bad f) q t ih = absurd (let z : _≡_ {A = ℕ} 0 1 = cc in omega arith)
-    by-step (Step.Got x) q t ih =
-        let got = step-cell s p k c at (sym q) refl .0 in
-        let w = cell-placed s at x got in
-        let i = ih x (w .inside) t in
-        record {
-          count = rw got (ap suc (i .count));
-          ends = rw got (i .ends);
-          above = omega (arith, w .past-head, w .whole, i .above);
-          inside = i .inside;
-          fits = rw got (row-fits s at x B got, i .fits);
-        }
-
 -- n rows from `at` to e, after h
 pub record Standing (h : List ℕ) (rs : List Row) (s : List ℕ) (n at e : ℕ) : Type 0 where
   pub holds : Holds h rs s
@@ -293,20 +252,20 @@ pub record Standing (h : List ℕ) (rs : List Row) (s : List ℕ) (n at e : ℕ)
   pub ends : at + length (rowsBytes rs) ≡ e
   pub count : length rs ≡ n
 
-pub judged-stands : (s : List ℕ) → AreBytes s → length s ≡ 4096 → (p k c n at : ℕ) {e : ℕ} → 12 ≤ at → at ≤ 4096 → judgeCells p k c n at s ≡ Judged.Ok e
-    → Standing (part 0 at s) (rowsOf n at s) s n at e
-judged-stands s B len p k c n at {e} h₀ h₁ j =
-    let i = judged-read s B p k c n at (omega arith) j in
-    let above = i .above in
-    let inside = i .inside in
-    let l : length (part 0 at s) ≡ at = length-part 0 at s (omega arith) in
-    let there : part at (e - at) s ≡ rowsBytes (rowsOf n at s) = rw (i .ends) at (rows-bytes s B n at) in
-    let size : length (rowsBytes (rowsOf n at s)) ≡ e - at = sym (ap length there) ∙ length-part at (e - at) s (omega arith) in
+pub sound-stands : (s : List ℕ) (e : ℕ) → Sound s e → Standing (part 0 12 s) (rows s) s (cellCount s) 12 e
+unfolding endOf
+sound-stands s e p =
+    let whole = p .whole in
+    let f = rows-fill s e p in
+    let w = split-at s e [] (cells s) p refl in
+    let high = w .within in
+    let l : length (part 0 12 s) ≡ 12 = length-part 0 12 s (omega arith) in
+    let size : length (rowsBytes (rows s)) ≡ e - 12 = omega (arith, f .0) in
     record {
-      holds = record { whole = len; head = rw l; header = omega arith; fits = i .fits; room = omega arith; there = rw (l, size) there };
+      holds = record { whole = whole; head = rw l; header = omega arith; fits = f .2; room = omega (arith, f .0); there = rw (l, size) (w .back) };
       starts = l;
-      ends = omega arith;
-      count = i .count;
+      ends = f .0;
+      count = f .1;
     }
 
 -- ---- from cell to cell

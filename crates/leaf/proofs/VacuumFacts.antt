@@ -5,7 +5,6 @@ use mathlib.Core.Bool.{Bool, true, false, _||_}
 use mathlib.Core.List.{List, [], _∷_, _++_, append-assoc}
 use Prim.Native.Nat.{ℕ, zero, suc, _+_, _-_, _*_, _/_, _%_, _≤_}
 use native.Mathlib.Omega.{arith}
-use lib.Dec.{eqb}
 use lib.ListN.{length, getD, length-append}
 use lib.Seq.{set-getD}
 use Rattle.store.specs.Pick.{pick}
@@ -13,7 +12,7 @@ use Rattle.store.specs.Le.{AreBytes, leAt, putAt}
 use Rattle.store.specs.Part.{part, pad}
 use Rattle.store.proofs.LeLaws.{length-putAt}
 use Rattle.store.proofs.PartLaws.{putAt-part}
-use Rattle.page.specs.Header.{nodeType, cellCount, withCount}
+use Rattle.page.specs.Header.{cellCount, withCount}
 use Rattle.row.specs.Read.{cellAt}
 use Rattle.row.specs.Exact.{cellOf}
 use Rattle.row.specs.declared.Cell.{Cell}
@@ -21,13 +20,11 @@ use Rattle.row.specs.declared.Stamp.{Stamp}
 use Rattle.row.proofs.Writing.{length-cell}
 use Rattle.mvcc.specs.Vacuum.{fate}
 use Rattle.mvcc.specs.declared.vacuum.Fate.{Fate}
-use Rattle.leaf.specs.Cells.{judgeCells, judgeLeaf, structural}
 use Rattle.leaf.specs.Rows.{Row, rowSize, rowBytes, rowsBytes, rows, writeRows}
 use Rattle.leaf.specs.Vacuum.{clearedRow, onFate, keptRows, droppedRows, changesRows, Swept, sweep}
 use Rattle.leaf.specs.VacuumFacts.{VacuumSweeps}
-use Rattle.leaf.specs.declared.Judged.{Judged}
 use Rattle.leaf.proofs.Rowing.{rows-cons, length-rows}
-use Rattle.leaf.proofs.Sweeping.{Holds, written, size-row, count-append, count-pad, count-twice, cell-first, same-holds, dropped-page, cleared-page, cleared-stamped, judged-stands, sweep-done, sweep-same, sweep-dropped, sweep-cleared}
+use Rattle.leaf.proofs.Sweeping.{Holds, written, size-row, count-append, count-pad, count-twice, cell-first, same-holds, dropped-page, cleared-page, cleared-stamped, sound-stands, sweep-done, sweep-same, sweep-dropped, sweep-cleared}
 
 module _ (st : ℕ → ℕ) (bound : ℕ) where
   -- the page with the kept rows, of k cells in all, after h
@@ -149,20 +146,12 @@ putAt-leAt (suc w) s a B =
 header-count : (pg : List ℕ) → AreBytes pg → withCount (cellCount pg) (part 0 12 pg) ≡ part 0 12 pg
 header-count pg B = putAt-part 2 0 12 pg 6 (cellCount pg) (omega arith) ∙ ap (part 0 12) (putAt-leAt 2 pg 6 B)
 
-leaf-judged : (pg : List ℕ) {e : ℕ} → judgeLeaf 0 pg ≡ Judged.Ok e → judgeCells 0 0 0 (cellCount pg) 12 pg ≡ Judged.Ok e
-unfolding judgeLeaf
-leaf-judged pg {e} j = by-type (eqb (nodeType pg) 1) j
-  where
-    by-type : (b : Bool) → pick b (judgeCells 0 0 0 (cellCount pg) 12 pg) (Judged.Bad (structural 0)) ≡ Judged.Ok e → judgeCells 0 0 0 (cellCount pg) 12 pg ≡ Judged.Ok e
-    by-type true q = q
-    by-type false q = absurd (let z : _≡_ {A = ℕ} 0 1 = cc in omega arith)
-
 pub vacuum-sweeps : VacuumSweeps
 unfolding writeRows
 vacuum-sweeps st bound e pg B len j =
     let n = cellCount pg in
     let rs = rows pg in
-    let t = judged-stands pg B len 0 0 0 n 12 (omega arith) (omega arith) (leaf-judged pg j) in
+    let t = sound-stands pg e (record { bytes = B; whole = len; judged = j }) in
     let starts = t .starts in
     let ends = t .ends in
     let count = t .count in

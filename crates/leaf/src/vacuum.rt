@@ -7,7 +7,8 @@ ghost use Rattle.row.specs.Read.{cellAt};
 ghost use Rattle.row.specs.Write.{stampLen};
 ghost use Rattle.row.specs.declared.read.CellRead.{CellRead};
 ghost use Rattle.mvcc.specs.Lists.{lookup, Judged as StatusesJudged};
-ghost use Rattle.leaf.specs.Cells.{judgeCells};
+ghost use Rattle.page.specs.Header.{cellCount};
+ghost use Rattle.leaf.specs.Cells.{judgeLeaf};
 ghost use Rattle.leaf.specs.Vacuum.{withoutStamp, sweep};
 ghost use Rattle.leaf.specs.declared.Judged.{Judged};
 use mvcc::vacuum::Fate;
@@ -40,7 +41,7 @@ pub fn vacuum_leaf(
     e: usize,
     n: usize,
 ) -> Vacuumed
-    requires { ⌜ (length (now pg) ≡ 4096) × StatusesJudged (now ids) (now states) × (n < 65536) × (judgeCells 0 0 0 n 12 (now pg) ≡ Judged.Ok e) ⌝ }
+    requires { ⌜ (length (now pg) ≡ 4096) × StatusesJudged (now ids) (now states) × (n ≡ cellCount (now pg)) × (n < 65536) × (judgeLeaf 0 (now pg) ≡ Judged.Ok e) ⌝ }
     ensures { λ r. ⌜ (r ≡ sweep (lookup (now (ids .entry)) (now (states .entry))) bound n 12 e n 0 false (now (pg .entry)) .told)
         × (now (pg .exit) ≡ sweep (lookup (now (ids .entry)) (now (states .entry))) bound n 12 e n 0 false (now (pg .entry)) .page) ⌝ }
 {

@@ -7,8 +7,9 @@ use native.Mathlib.Omega.{arith}
 use denote.Ref.{now}
 use lib.ListN.{length}
 use Rattle.mvcc.specs.Lists.{lookup}
+use Rattle.leaf.specs.EditFacts.{Sound}
 use Rattle.leaf.specs.Vacuum.{Swept, sweep}
-use Rattle.leaf.proofs.Sweeping.{judged-stands, Left, left-next, cleared-stamped, sweep-done, sweep-bad, sweep-same, sweep-dropped, sweep-cleared}
+use Rattle.leaf.proofs.Sweeping.{sound-stands, Left, left-next, cleared-stamped, sweep-done, sweep-bad, sweep-same, sweep-dropped, sweep-cleared}
 use borrow.Author.Needs.{needs}
 use Rattle.leaf.proofs.vacuum.vacuum_leaf.Statement.{statement}
 use Rattle.leaf.proofs.vacuum.vacuum_leaf.Tie as tie
@@ -28,7 +29,9 @@ abbrev μ-loop : tie.MeasureT-loop
 loop-holds : tie.Need-loop-holds Inv-loop μ-loop
 loop-holds c =
     let k = c .before .before in
-    (record { head = _; rs = _; stands = judged-stands (now (k .before .args .pg)) (λ i. (k .slice-known .given i) .fits) (omega arith) 0 0 0 (k .before .args .n) 12 (omega arith) (omega arith) (k .before .pre .3) }, refl, omega arith, omega arith, omega arith, omega arith)
+    let sound : Sound (now (k .before .args .pg)) (k .before .args .e) = record { bytes = λ i. (k .slice-known .given i) .fits; whole = omega arith; judged = k .before .pre .4 } in
+    let first : Left (k .before .args .n) 12 (k .before .args .e) (now (k .before .args .pg)) = rw (k .before .pre .2) (record { head = _; rs = _; stands = sound-stands _ _ sound }) in
+    (first, refl, omega arith, omega arith, omega arith, omega arith)
 
 read-cell-requires : tie.Need-read-cell-requires Inv-loop μ-loop
 read-cell-requires c κs = search needs
