@@ -1,3 +1,4 @@
+-- `leaf::in_order` meets its contract. Assumes nothing.
 use Rattle.leaf.proofs.Walking.{order-less, order-more, order-same}
 use borrow.Author.Needs.{needs}
 use Rattle.leaf.proofs.in_order.Statement.{statement}

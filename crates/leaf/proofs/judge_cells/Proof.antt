@@ -1,3 +1,4 @@
+-- `leaf::judge_cells` meets its contract. Assumes nothing.
 use Rattle.leaf.proofs.Walking.{walk, nothing, walk-bad, walk-in, walk-done, step-next, judged-ok, judged-bad}
 use native.Mathlib.Omega.{arith}
 use Prim.Native.Nat.{_≤_}

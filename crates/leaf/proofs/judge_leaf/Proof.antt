@@ -1,3 +1,4 @@
+-- `leaf::judge_leaf` meets its contract. Assumes nothing.
 use Rattle.leaf.proofs.Walking.{leaf-other, leaf-cells}
 use native.Mathlib.Omega.{arith}
 use borrow.Author.Needs.{needs}

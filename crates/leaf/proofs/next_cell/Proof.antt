@@ -1,3 +1,4 @@
+-- `leaf::next_cell` meets its contract. Assumes nothing.
 use Rattle.leaf.proofs.Walking.{step-bad, step-in, step-out}
 -- `leaf::next_cell` meets its contract: each way out is one law of Walking. Assumes nothing.
 use borrow.Author.Needs.{needs}

@@ -1,3 +1,4 @@
+-- `reads::conflict_at` meets its contract. Assumes nothing.
 use Rattle.reads.proofs.Calls.{none-judged, conflict-bad, conflict-leaf}
 use native.Mathlib.Omega.{arith}
 -- `reads::conflict_at` meets its contract: each way out is one law of Calls. Assumes nothing.

@@ -1,3 +1,4 @@
+-- `reads::create` meets its contract. Assumes nothing.
 use Rattle.reads.proofs.Calls.{create-bad, create-full, create-done}
 use Rattle.page.proofs.PoolLaws.{pool-is}
 use mathlib.Core.Path.{sym, _∙_}

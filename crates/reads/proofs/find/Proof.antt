@@ -1,3 +1,4 @@
+-- `reads::find` meets its contract. Assumes nothing.
 use Rattle.reads.specs.Find.{findCall}
 use mir.Facts.{toZ-ofZ}
 use mathlib.Core.Path.{_∙_}

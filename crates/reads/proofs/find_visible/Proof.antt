@@ -1,3 +1,4 @@
+-- `reads::find_visible` meets its contract. Assumes nothing.
 use Rattle.reads.proofs.Calls.{run-small, call-found, call-refused}
 use Rattle.page.specs.Key.{rankOf}
 use mir.Facts.{toZ-ofZ}

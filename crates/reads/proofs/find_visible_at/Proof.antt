@@ -1,3 +1,4 @@
+-- `reads::find_visible_at` meets its contract. Assumes nothing.
 use Rattle.reads.proofs.Calls.{run-pool, run-active, run-statuses, run-look}
 use Rattle.mvcc.proofs.Laws.{good-active-rises, good-statuses-judged}
 use Rattle.page.proofs.PoolLaws.{pool-is}

@@ -1,3 +1,4 @@
+-- `reads::has_write_conflict` meets its contract. Assumes nothing.
 use Rattle.reads.proofs.Calls.{conflict-pool, conflict-active, conflict-test}
 use Rattle.mvcc.proofs.Laws.{good-active-rises}
 use Rattle.page.proofs.PoolLaws.{pool-is}

@@ -1,3 +1,4 @@
+-- `reads::look` meets its contract. Assumes nothing.
 use Rattle.reads.proofs.Calls.{look-bad, look-leaf}
 -- `reads::look` meets its contract: each way out is one law of Calls. Assumes nothing.
 use borrow.Author.Needs.{needs}

@@ -1,3 +1,4 @@
+-- `reads::make_root` meets its contract. Assumes nothing.
 use Rattle.reads.proofs.Calls.{root-state, root-done}
 use Rattle.page.proofs.PoolLaws.{alloc-page}
 use native.Mathlib.Omega.{arith}

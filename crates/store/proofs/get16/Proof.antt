@@ -1,3 +1,4 @@
+-- `store::get16` meets its contract. Assumes nothing.
 use native.Mathlib.Omega.{arith}
 use Rattle.store.specs.Le.{leAt}
 use borrow.Author.Needs.{needs}

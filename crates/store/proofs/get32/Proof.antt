@@ -1,3 +1,4 @@
+-- `store::get32` meets its contract. Assumes nothing.
 use Rattle.store.proofs.LeLaws.{leAt-add}
 use borrow.Author.Needs.{needs}
 use Rattle.store.proofs.get32.Statement.{statement}

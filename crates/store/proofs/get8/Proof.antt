@@ -1,3 +1,4 @@
+-- `store::get8` meets its contract. Assumes nothing.
 use borrow.Author.Needs.{needs}
 use Rattle.store.specs.Le.{leAt}
 use Rattle.store.proofs.get8.Statement.{statement}

@@ -1,3 +1,4 @@
+-- `store::put32` meets its contract. Assumes nothing.
 use Rattle.store.proofs.LeLaws.{putAt-two}
 use borrow.Author.Needs.{needs}
 use Rattle.store.proofs.put32.Statement.{statement}

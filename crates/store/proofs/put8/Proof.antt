@@ -1,3 +1,4 @@
+-- `store::put8` meets its contract. Assumes nothing.
 use mathlib.Core.Path.{_≡_}
 use Prim.Native.Nat.{_%_}
 use native.Mathlib.Omega.{arith}

@@ -1,3 +1,4 @@
+-- `tree::best_along` meets its contract. Assumes nothing.
 use Rattle.tree.proofs.Ways.{along-again, along-unused, along-bad, along-last, along-end, along-on, best-broken, best-stop, best-go}
 use Rattle.tree.specs.Chain.{along, lookBest, toldBest, bestAlong}
 use Rattle.leaf.specs.declared.find.Best.{Best}

@@ -1,3 +1,4 @@
+-- `tree::descend` meets its contract. Assumes nothing.
 use Rattle.tree.proofs.Ways.{inner-is, way-unused, way-leaf, way-deep, way-bad, way-on}
 use Rattle.tree.specs.Descend.{descendOf}
 use native.Mathlib.Omega.{arith}

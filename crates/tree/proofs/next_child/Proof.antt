@@ -1,3 +1,4 @@
+-- `tree::next_child` meets its contract. Assumes nothing.
 use Rattle.tree.proofs.Ways.{child-search, child-insert, child-first}
 use native.Mathlib.Omega.{arith}
 -- `tree::next_child` meets its contract: each way out is one law of Ways. Assumes nothing.

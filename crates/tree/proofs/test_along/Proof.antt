@@ -1,3 +1,4 @@
+-- `tree::test_along` meets its contract. Assumes nothing.
 use Rattle.tree.proofs.Ways.{along-again, along-unused, along-bad, along-last, along-end, along-on, test-broken, test-stop, test-go}
 use Rattle.tree.specs.Chain.{along, lookTest, toldTest, testAlong}
 use mathlib.Core.Bool.{false}

@@ -1,3 +1,4 @@
+-- `leaf::divide::insert_divide_right` meets its contract. Assumes nothing.
 use denote.Ref.{now}
 use native.Mathlib.Omega.{arith}
 use Rattle.page.proofs.PageLaws.{lent-page, back-page}

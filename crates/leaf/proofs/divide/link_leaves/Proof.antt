@@ -1,3 +1,4 @@
+-- `leaf::divide::link_leaves` meets its contract. Assumes nothing.
 use Rattle.leaf.proofs.Dividing.{link-done}
 use borrow.Author.Needs.{needs}
 use Rattle.leaf.proofs.divide.link_leaves.Statement.{statement}

@@ -1,3 +1,4 @@
+-- `leaf::divide::part_leaf` meets its contract. Assumes nothing.
 use denote.Ref.{now}
 use Rattle.leaf.proofs.Dividing.{part-done}
 use borrow.Author.Needs.{needs}

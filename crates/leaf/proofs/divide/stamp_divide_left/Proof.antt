@@ -1,3 +1,4 @@
+-- `leaf::divide::stamp_divide_left` meets its contract. Assumes nothing.
 use mathlib.Core.Path.{refl}
 use denote.Ref.{now}
 use native.Mathlib.Omega.{arith}

@@ -1,3 +1,4 @@
+-- `leaf::edit::grow_stamp` meets its contract. Assumes nothing.
 use mathlib.Core.Path.{_∙_}
 use borrow.Author.Needs.{needs}
 use Rattle.leaf.proofs.edit.grow_stamp.Statement.{statement}

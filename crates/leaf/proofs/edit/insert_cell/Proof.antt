@@ -1,3 +1,4 @@
+-- `leaf::edit::insert_cell` meets its contract. Assumes nothing.
 use Rattle.leaf.specs.Edit.{withCell}
 use mathlib.Core.Path.{_∙_}
 use borrow.Author.Needs.{needs}

@@ -1,3 +1,4 @@
+-- `leaf::edit::open_gap` meets its contract. Assumes nothing.
 use Rattle.leaf.specs.Edit.{gapped}
 use mathlib.Core.Path.{_∙_}
 use borrow.Author.Needs.{needs}

@@ -1,3 +1,4 @@
+-- `leaf::edit::put_cell` meets its contract. Assumes nothing.
 use mathlib.Core.Path.{sym, _∙_}
 use Rattle.row.proofs.Writing.{length-cell}
 use Rattle.leaf.proofs.Editing.{cell-in}

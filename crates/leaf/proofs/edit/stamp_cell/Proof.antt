@@ -1,3 +1,4 @@
+-- `leaf::edit::stamp_cell` meets its contract. Assumes nothing.
 use mathlib.Core.Path.{refl, _∙_}
 use denote.Ref.{now}
 use native.Mathlib.Omega.{arith}

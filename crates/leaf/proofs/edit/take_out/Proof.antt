@@ -1,3 +1,4 @@
+-- `leaf::edit::take_out` meets its contract. Assumes nothing.
 use mathlib.Core.Path.{_∙_}
 use denote.Ref.{now}
 use native.Mathlib.Omega.{arith}

@@ -1,3 +1,4 @@
+-- `leaf::find::joined_of` meets its contract. Assumes nothing.
 use Rattle.leaf.proofs.Finding.{joined-found, joined-other, joined-claim, joined-ported}
 -- `leaf::find::joined_of` meets its contract: each way out is one law of Finding. Assumes nothing.
 use borrow.Author.Needs.{needs}

@@ -1,3 +1,4 @@
+-- `leaf::find::later_of` meets its contract. Assumes nothing.
 use Rattle.leaf.proofs.Finding.{later-first, later-old, later-new}
 -- `leaf::find::later_of` meets its contract: each way out is one law of Finding. Assumes nothing.
 use borrow.Author.Needs.{needs}

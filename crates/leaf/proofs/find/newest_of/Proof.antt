@@ -1,3 +1,4 @@
+-- `leaf::find::newest_of` meets its contract. Assumes nothing.
 use Rattle.leaf.proofs.Finding.{newest-other, newest-seen, newest-unseen}
 -- `leaf::find::newest_of` meets its contract: each way out is one law of Finding. Assumes nothing.
 use borrow.Author.Needs.{needs}

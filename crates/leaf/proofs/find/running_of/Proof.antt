@@ -1,3 +1,4 @@
+-- `leaf::find::running_of` meets its contract. Assumes nothing.
 use Rattle.leaf.proofs.Finding.{running-below, running-same, running-above}
 -- `leaf::find::running_of` meets its contract: each way out is one law of Finding. Assumes nothing.
 use borrow.Author.Needs.{needs}

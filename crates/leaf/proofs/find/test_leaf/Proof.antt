@@ -1,3 +1,4 @@
+-- `leaf::find::test_leaf` meets its contract. Assumes nothing.
 use Rattle.leaf.proofs.Finding.{loop-type, loop-bad, loop-done}
 use Rattle.leaf.proofs.Walking.{walk, walk-bad, walk-in, walk-done, step-next}
 use Rattle.leaf.specs.declared.find.LeafTest.{LeafTest}

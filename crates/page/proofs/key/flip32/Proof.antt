@@ -1,3 +1,4 @@
+-- `page::key::flip32` meets its contract. Assumes nothing.
 use Rattle.page.specs.Key.{flip}
 use borrow.Author.Needs.{needs}
 use Rattle.page.proofs.key.flip32.Statement.{statement}

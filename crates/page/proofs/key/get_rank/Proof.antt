@@ -1,3 +1,4 @@
+-- `page::key::get_rank` meets its contract. Assumes nothing.
 use borrow.Author.Needs.{needs}
 use Rattle.page.proofs.key.get_rank.Statement.{statement}
 use Rattle.page.proofs.key.get_rank.Tie as tie

@@ -1,3 +1,4 @@
+-- `page::key::put_rank` meets its contract. Assumes nothing.
 use borrow.Author.Needs.{needs}
 use Rattle.page.proofs.key.put_rank.Statement.{statement}
 use Rattle.page.proofs.key.put_rank.Tie as tie

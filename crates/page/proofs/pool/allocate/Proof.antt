@@ -1,3 +1,4 @@
+-- `page::pool::allocate` meets its contract. Assumes nothing.
 use mathlib.Core.Path.{refl}
 use Rattle.page.specs.Pool.{allocated, nextPage}
 use Rattle.page.proofs.PoolLaws.{fresh-done}

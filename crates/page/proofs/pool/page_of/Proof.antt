@@ -1,3 +1,4 @@
+-- `page::pool::page_of` meets its contract. Assumes nothing.
 use mathlib.Core.Path.{ap, _∙_}
 use lib.ListN.{length}
 use Rattle.page.proofs.PageLaws.{lent-page, length-page}

@@ -1,3 +1,4 @@
+-- `page::pool::pool_is_good` meets its contract. Assumes nothing.
 use Rattle.page.proofs.PoolLaws.{pool-ragged, pool-none, pool-large, pool-in-use}
 use borrow.Author.Needs.{needs}
 use Rattle.page.proofs.pool.pool_is_good.Statement.{statement}

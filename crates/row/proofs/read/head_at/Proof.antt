@@ -1,3 +1,4 @@
+-- `row::read::head_at` meets its contract. Assumes nothing.
 use native.Mathlib.Omega.{arith}
 use Rattle.row.proofs.Reading.{stamp-size, pointer-size, pointer-place, data-place, head-empty, head-format, head-no-stamp, head-stamp, head-no-pointer, head-pointer, head-short, head-got}
 use borrow.Author.Needs.{needs}

@@ -1,3 +1,4 @@
+-- `row::read::payload_at` meets its contract. Assumes nothing.
 use Rattle.row.proofs.Reading.{head-is, payload-bad, payload-past, payload-long, payload-cell, stamp-inside, pointer-inside}
 use native.Mathlib.Omega.{arith}
 -- `row::read::payload_at` meets its contract: each way out is one law of Reading. Assumes nothing.

@@ -1,3 +1,4 @@
+-- `row::read::pointer_size` meets its contract. Assumes nothing.
 use Rattle.row.proofs.Reading.{pointer-size-none, pointer-size-at}
 use borrow.Author.Needs.{needs}
 use Rattle.row.proofs.read.pointer_size.Statement.{statement}

@@ -1,3 +1,4 @@
+-- `row::read::read_cell` meets its contract. Assumes nothing.
 use Rattle.row.proofs.Reading.{cell-short, cell-past, cell-whole}
 use native.Mathlib.Omega.{arith}
 -- `row::read::read_cell` meets its contract: each way out is one law of Reading. Assumes nothing.

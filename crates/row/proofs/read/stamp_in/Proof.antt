@@ -1,3 +1,4 @@
+-- `row::read::stamp_in` meets its contract. Assumes nothing.
 use native.Mathlib.Omega.{arith}
 use denote.Ref.{now}
 use Rattle.store.specs.Le.{leAt}

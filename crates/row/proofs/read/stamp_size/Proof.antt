@@ -1,3 +1,4 @@
+-- `row::read::stamp_size` meets its contract. Assumes nothing.
 use Rattle.row.proofs.Reading.{stamp-size-none, stamp-size-by}
 use borrow.Author.Needs.{needs}
 use Rattle.row.proofs.read.stamp_size.Statement.{statement}

@@ -1,3 +1,4 @@
+-- `row::write::cell_size` meets its contract. Assumes nothing.
 use Rattle.row.proofs.Writing.{stamp-len, pointer-len}
 use native.Mathlib.Omega.{arith}
 use borrow.Author.Needs.{needs}

@@ -1,3 +1,4 @@
+-- `row::write::put_head` meets its contract. Assumes nothing.
 use Rattle.row.proofs.Writing.{head-done}
 use borrow.Author.Needs.{needs}
 use Rattle.row.proofs.write.put_head.Statement.{statement}

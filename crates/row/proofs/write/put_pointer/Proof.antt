@@ -1,3 +1,4 @@
+-- `row::write::put_pointer` meets its contract. Assumes nothing.
 use mathlib.Core.Path.{_∙_}
 use Rattle.row.proofs.Writing.{pointer-absent, pointer-present, pointer-none-done, pointer-at-done}
 use native.Mathlib.Omega.{arith}

@@ -1,3 +1,4 @@
+-- `row::write::put_stamp` meets its contract. Assumes nothing.
 use mathlib.Core.Path.{_∙_}
 use Rattle.row.proofs.Writing.{stamp-absent, stamp-present, stamp-none-done, stamp-by-done}
 use native.Mathlib.Omega.{arith}

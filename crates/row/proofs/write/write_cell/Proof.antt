@@ -1,3 +1,4 @@
+-- `row::write::write_cell` meets its contract. Assumes nothing.
 use Rattle.row.proofs.Writing.{stamp-len, pointer-len, cell-done}
 use native.Mathlib.Omega.{arith}
 use borrow.Author.Needs.{needs}
