@@ -1,0 +1,201 @@
+-- The climb: the ways out of the step to the page above, the climb that collects into a path and each way that a turn of
+-- it goes, and that it says what the climb without a path says. Assumes nothing.
+use mathlib.Core.Path.{_≡_, refl, sym, ap, _∙_, subst}
+use mathlib.Core.Bool.{Bool, true, false}
+use mathlib.Core.List.{List, [], _∷_, _++_}
+use Prim.Native.Nat.{ℕ, zero, suc, _+_, _-_, _≤_, _<_}
+use native.Mathlib.Omega.{arith}
+use lib.ListN.{length, set, length-append}
+use lib.Seq.{set-append-seam, append-snoc}
+use borrow.Author.Tests.{lt-ltb, le-ltb, eq-eqb, ne-eqb, ltb-true, eqb-true, eqb-false}
+use lib.Dec.{ltb, eqb}
+use Rattle.store.specs.Pick.{pick}
+use Rattle.store.specs.Part.{pad, zeros}
+use Rattle.page.specs.Page.{page}
+use Rattle.page.specs.Header.{parentOf}
+use Rattle.row.specs.declared.Fault.{Fault}
+use Rattle.inner.specs.Inner.{childrenFrom, judgeInner, structural}
+use Rattle.inner.specs.Route.{childPlace}
+use Rattle.inner.specs.declared.InnerJudged.{InnerJudged}
+use Rattle.tree.specs.Descend.{onInner}
+use Rattle.tree.specs.Climb.{aboveFrom, aboveOf, onAbove, Way, up, astray, below, rootWay, climbOf, pathOf, arrived, lost, climbed, topOf}
+use Rattle.tree.specs.declared.climb.Path.{Path}
+use Rattle.tree.specs.declared.climb.Climbed.{Climbed}
+use Rattle.tree.specs.declared.climb.Above.{Above}
+
+-- ---- the page above
+
+module _ (used p q : ℕ) (s : List ℕ) where
+  from-unused : {f : Fault} → used ≤ q → f ≡ structural q → Above.Bad f ≡ aboveFrom used p q s
+  unfolding aboveFrom
+  from-unused h e = rw (le-ltb q used h, e)
+
+  module _ {pg : List ℕ} {r : InnerJudged} (h : q < used) (here : pg ≡ page q s) (judged : r ≡ judgeInner q pg) where
+    from-bad : {f : Fault} → r ≡ InnerJudged.Bad f → Above.Bad f ≡ aboveFrom used p q s
+    unfolding aboveFrom
+    from-bad e = rw (lt-ltb q used h, ← here, sym judged ∙ e)
+
+    module _ {n i : ℕ} (e : r ≡ InnerJudged.Ok n) (place : i ≡ childPlace p (childrenFrom 0 (n + 1) pg)) where
+      from-found : i ≤ n → Above.Page q ≡ aboveFrom used p q s
+      unfolding aboveFrom
+      from-found l = rw (lt-ltb q used h, ← here, sym judged ∙ e, ← place, lt-ltb i (n + 1) (omega arith))
+
+      from-other : {f : Fault} → n < i → f ≡ structural q → Above.Bad f ≡ aboveFrom used p q s
+      unfolding aboveFrom
+      from-other l u = rw (lt-ltb q used h, ← here, sym judged ∙ e, ← place, le-ltb i (n + 1) (omega arith), u)
+
+module _ (used p : ℕ) (s : List ℕ) {pg₀ : List ℕ} {q : ℕ} (low : pg₀ ≡ page p s) (parent : q ≡ parentOf pg₀) where
+  from-parent : aboveFrom used p q s ≡ aboveOf used p s
+  from-parent = ap (λ (x : ℕ). aboveFrom used p x s) (parent ∙ ap parentOf low)
+
+  pub above-unused : {f : Fault} → used ≤ q → f ≡ structural q → Above.Bad f ≡ aboveOf used p s
+  above-unused h e = from-unused used p q s h e ∙ from-parent
+
+  module _ {pg : List ℕ} {r : InnerJudged} (h : q < used) (here : pg ≡ page q s) (judged : r ≡ judgeInner q pg) where
+    pub above-bad : {f : Fault} → r ≡ InnerJudged.Bad f → Above.Bad f ≡ aboveOf used p s
+    above-bad e = from-bad used p q s h here judged e ∙ from-parent
+
+    module _ {n i : ℕ} (e : r ≡ InnerJudged.Ok n) (place : i ≡ childPlace p (childrenFrom 0 (n + 1) pg)) where
+      pub above-page : i ≤ n → Above.Page q ≡ aboveOf used p s
+      above-page l = from-found used p q s h here judged e place l ∙ from-parent
+
+      pub above-other : {f : Fault} → n < i → f ≡ structural q → Above.Bad f ≡ aboveOf used p s
+      above-other l u = from-other used p q s h here judged e place l u ∙ from-parent
+
+-- ---- at the root
+
+module _ (p : ℕ) (path : Path) (s : List ℕ) {pg : List ℕ} {q : ℕ} (here : pg ≡ page p s) (parent : q ≡ parentOf pg) where
+  pub top-root : q ≡ 0 → arrived path ≡ topOf p path s
+  top-root e = rw (eq-eqb (parentOf (page p s)) 0 (rw (parent, here) at e))
+
+  pub top-lost : {f : Fault} {r : Climbed} → (q ≡ 0 → ⊥) → f ≡ structural p → r ≡ lost f → r ≡ topOf p path s
+  top-lost z e u = u ∙ rw (e, ne-eqb (parentOf (page p s)) 0 (λ d. z (parent ∙ rw here d)))
+
+-- ---- the climb that collects
+
+abbrev pub stepPath : Path → ℕ → Path
+stepPath path p = record { pages = set (path .pages) (path .len) p; len = path .len + 1 }
+
+-- from page p, which path does not hold yet, with k more levels above it at most
+unfoldable pub climbFrom : (k : ℕ) → (used root p : ℕ) → Path → List ℕ → Climbed
+climbFrom zero used root p path s = pick (eqb p root) (topOf p (stepPath path p) s) (lost (structural p))
+climbFrom (suc k) used root p path s =
+    pick (eqb p root) (topOf p (stepPath path p) s) (onAbove (λ q. climbFrom k used root q (stepPath path p) s) (λ f. lost f) (aboveOf used p s))
+
+module _ (used root p : ℕ) (path : Path) (s : List ℕ) where
+  pub climb-root : (k : ℕ) {r : Climbed} → p ≡ root → r ≡ topOf p (stepPath path p) s → r ≡ climbFrom k used root p path s
+  unfolding climbFrom
+  climb-root zero h e = e ∙ rw (eq-eqb p root h)
+  climb-root (suc k) h e = e ∙ rw (eq-eqb p root h)
+
+  module _ (h : p ≡ root → ⊥) where
+    pub climb-high : (k : ℕ) {f : Fault} {r : Climbed} → k ≡ 0 → f ≡ structural p → r ≡ lost f → r ≡ climbFrom k used root p path s
+    unfolding climbFrom
+    climb-high zero z e u = u ∙ rw (ne-eqb p root h, e)
+    climb-high (suc k) z e u = absurd (omega arith)
+
+    module _ {a : Above} (step : a ≡ aboveOf used p s) where
+      pub climb-bad : (k : ℕ) {f : Fault} {r : Climbed} → (k ≡ 0 → ⊥) → a ≡ Above.Bad f → r ≡ lost f → r ≡ climbFrom k used root p path s
+      unfolding climbFrom
+      climb-bad zero z e u = absurd (z refl)
+      climb-bad (suc k) z e u = u ∙ rw (ne-eqb p root h, sym step ∙ e)
+
+      pub climb-on : (k : ℕ) {q : ℕ} → (k ≡ 0 → ⊥) → a ≡ Above.Page q → climbFrom (k - 1) used root q (stepPath path p) s ≡ climbFrom k used root p path s
+      unfolding climbFrom
+      climb-on zero z e = absurd (z refl)
+      climb-on (suc k) z e =
+          let m : suc k - 1 ≡ k = omega arith in
+          rw (ne-eqb p root h, sym step ∙ e, m)
+
+-- ---- and the climb without a path
+
+abbrev after : List ℕ → Way → Way
+after xs (up ps) = up (xs ++ ps)
+after xs (astray f) = astray f
+
+after-below : (xs : List ℕ) (p : ℕ) (w : Way) → after (xs ++ (p ∷ [])) w ≡ after xs (below p w)
+after-below xs p (up ps) = ap (λ (l : List ℕ). up l) (append-snoc xs p ps)
+after-below xs p (astray f) = refl
+
+path-step : (xs : List ℕ) (p : ℕ) → length xs < 4 → stepPath (pathOf xs) p ≡ pathOf (xs ++ (p ∷ []))
+unfolding pad
+path-step xs p h =
+    let l : length (xs ++ (p ∷ [])) ≡ length xs + 1 = length-append xs (p ∷ []) in
+    let m : 4 - length xs ≡ suc (3 - length xs) = omega arith in
+    let n : 4 - (length xs + 1) ≡ 3 - length xs = omega arith in
+    rw (l, m, n, set-append-seam xs 0 (zeros (3 - length xs)) p, append-snoc xs p (zeros (3 - length xs)))
+
+root-is : (p : ℕ) (xs : List ℕ) (s : List ℕ) → length xs < 4 → topOf p (stepPath (pathOf xs) p) s ≡ climbed (after xs (rootWay p s))
+root-is p xs s h = rw (path-step xs p h) (by-parent (eqb (parentOf (page p s)) 0))
+  where
+    by-parent : (b : Bool) → pick b (arrived (pathOf (xs ++ (p ∷ [])))) (lost (structural p)) ≡ climbed (after xs (pick b (up (p ∷ [])) (astray (structural p))))
+    by-parent true = refl
+    by-parent false = refl
+
+from-is : (k used root p : ℕ) (xs : List ℕ) (s : List ℕ) → length xs + k < 4 → climbFrom k used root p (pathOf xs) s ≡ climbed (after xs (climbOf k used root p s))
+unfolding climbFrom climbOf
+from-is zero used root p xs s h = by-root (eqb p root)
+  where
+    by-root : (b : Bool) → pick b (topOf p (stepPath (pathOf xs) p) s) (lost (structural p)) ≡ climbed (after xs (pick b (rootWay p s) (astray (structural p))))
+    by-root true = root-is p xs s (omega arith)
+    by-root false = refl
+from-is (suc k) used root p xs s h =
+    by-root
+    (λ q.
+    let l : length (xs ++ (p ∷ [])) ≡ length xs + 1 = length-append xs (p ∷ []) in
+    ap (λ (x : Path). climbFrom k used root q x s) (path-step xs p (omega arith))
+    ∙ (from-is k used root q (xs ++ (p ∷ [])) s (omega arith) ∙ ap climbed (after-below xs p (climbOf k used root q s))))
+    (eqb p root) (aboveOf used p s)
+  where
+    by-root : ((q : ℕ) → climbFrom k used root q (stepPath (pathOf xs) p) s ≡ climbed (after xs (below p (climbOf k used root q s)))) → (b : Bool) (a : Above)
+        → pick b (topOf p (stepPath (pathOf xs) p) s) (onAbove (λ q. climbFrom k used root q (stepPath (pathOf xs) p) s) (λ f. lost f) a)
+        ≡ climbed (after xs (pick b (rootWay p s) (onAbove (λ q. below p (climbOf k used root q s)) (λ f. astray f) a)))
+    by-root ih true a = root-is p xs s (omega arith)
+    by-root ih false (Above.Page q) = ih q
+    by-root ih false (Above.Bad f) = refl
+
+pub climb-is : (used root p : ℕ) (s : List ℕ) → climbFrom 3 used root p (record { pages = zeros 4; len = 0 }) s ≡ climbed (climbOf 3 used root p s)
+unfolding pad
+climb-is used root p s = from-is 3 used root p [] s (omega arith) ∙ ap climbed (same (climbOf 3 used root p s))
+  where
+    same : (w : Way) → after [] w ≡ w
+    same (up ps) = refl
+    same (astray f) = refl
+
+-- ---- what a climb that came to the root says
+
+-- q, above p: p names it, it is in use and judged, and holds p
+pub record Held (used p q : ℕ) (s : List ℕ) : Type 0 where
+  pub named : parentOf (page p s) ≡ q
+  pub in-use : q < used
+  pub keys : ℕ
+  pub judged : judgeInner q (page q s) ≡ InnerJudged.Ok keys
+  pub place : childPlace p (childrenFrom 0 (keys + 1) (page q s)) ≤ keys
+
+-- what the step to the page above says
+pub held : (used p : ℕ) (s : List ℕ) {q : ℕ} → aboveOf used p s ≡ Above.Page q → Held used p q s
+unfolding aboveFrom
+held used p s {q} e = by-use (parentOf (page p s)) refl (ltb (parentOf (page p s)) used) refl e
+  where
+    by-place : (t n : ℕ) → parentOf (page p s) ≡ t → t < used → judgeInner t (page t s) ≡ InnerJudged.Ok n → (b : Bool)
+        → ltb (childPlace p (childrenFrom 0 (n + 1) (page t s))) (n + 1) ≡ b → pick b (Above.Page t) (Above.Bad (structural t)) ≡ Above.Page q → Held used p q s
+    by-place t n z h j true l u =
+        let w : t ≡ q = cc in
+        let i = ltb-true (childPlace p (childrenFrom 0 (n + 1) (page t s))) (n + 1) l in
+        subst (λ (x : ℕ). Held used p x s) w (record { named = z; in-use = h; keys = n; judged = j; place = omega arith })
+    by-place t n z h j false l u = absurd (let z : _≡_ {A = ℕ} 0 1 = cc in omega arith)
+
+    by-judged : (t : ℕ) → parentOf (page p s) ≡ t → t < used → (r : InnerJudged) → judgeInner t (page t s) ≡ r
+        → onInner (λ n. pick (ltb (childPlace p (childrenFrom 0 (n + 1) (page t s))) (n + 1)) (Above.Page t) (Above.Bad (structural t))) (λ f. Above.Bad f) r ≡ Above.Page q
+        → Held used p q s
+    by-judged t z h (InnerJudged.Ok n) j u = by-place t n z h j (ltb (childPlace p (childrenFrom 0 (n + 1) (page t s))) (n + 1)) refl u
+    by-judged t z h (InnerJudged.Bad f) j u = absurd (let z : _≡_ {A = ℕ} 0 1 = cc in omega arith)
+
+    by-use : (t : ℕ) → parentOf (page p s) ≡ t → (b : Bool) → ltb t used ≡ b
+        → pick b
+        (onInner (λ n. pick (ltb (childPlace p (childrenFrom 0 (n + 1) (page t s))) (n + 1)) (Above.Page t) (Above.Bad (structural t))) (λ f. Above.Bad f) (judgeInner t (page t s)))
+        (Above.Bad (structural t))
+        ≡ Above.Page q
+        → Held used p q s
+    by-use t z true l u = by-judged t z (ltb-true t used l) (judgeInner t (page t s)) refl u
+    by-use t z false l u = absurd (let z : _≡_ {A = ℕ} 0 1 = cc in omega arith)
