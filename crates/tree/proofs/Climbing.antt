@@ -1,11 +1,12 @@
--- The climb: the ways out of the step to the page above, the climb that collects into a path and each way that a turn of
--- it goes, and that it says what the climb without a path says. Assumes nothing.
+-- The climb: the ways out of the step to the page above; the climb that collects into a path, each way that a turn of it
+-- goes, and that it says what the climb without a path says; and what a climb that came to the root says of its pages.
+-- Assumes nothing.
 use mathlib.Core.Path.{_≡_, refl, sym, ap, _∙_, subst}
 use mathlib.Core.Bool.{Bool, true, false}
 use mathlib.Core.List.{List, [], _∷_, _++_}
 use Prim.Native.Nat.{ℕ, zero, suc, _+_, _-_, _≤_, _<_}
 use native.Mathlib.Omega.{arith}
-use lib.ListN.{length, set, length-append}
+use lib.ListN.{length, getD, set, drop, length-append, length-drop, List·getD-append}
 use lib.Seq.{set-append-seam, append-snoc}
 use borrow.Author.Tests.{lt-ltb, le-ltb, eq-eqb, ne-eqb, ltb-true, eqb-true, eqb-false}
 use lib.Dec.{ltb, eqb}
@@ -14,8 +15,8 @@ use Rattle.store.specs.Part.{pad, zeros}
 use Rattle.page.specs.Page.{page}
 use Rattle.page.specs.Header.{parentOf}
 use Rattle.row.specs.declared.Fault.{Fault}
-use Rattle.inner.specs.Inner.{childrenFrom, judgeInner, structural}
-use Rattle.inner.specs.Route.{childPlace}
+use Rattle.inner.specs.Inner.{childAt, childrenFrom, judgeInner, structural}
+use Rattle.inner.specs.Route.{firstWhere, childPlace}
 use Rattle.inner.specs.declared.InnerJudged.{InnerJudged}
 use Rattle.tree.specs.Descend.{onInner}
 use Rattle.tree.specs.Climb.{aboveFrom, aboveOf, onAbove, Way, up, astray, below, rootWay, climbOf, pathOf, arrived, lost, climbed, topOf}
@@ -199,3 +200,154 @@ held used p s {q} e = by-use (parentOf (page p s)) refl (ltb (parentOf (page p s
         → Held used p q s
     by-use t z true l u = by-judged t z (ltb-true t used l) (judgeInner t (page t s)) refl u
     by-use t z false l u = absurd (let z : _≡_ {A = ℕ} 0 1 = cc in omega arith)
+
+place-child : (child n i j : ℕ) (pg : List ℕ) → j ≡ i + childPlace child (childrenFrom i n pg) → childPlace child (childrenFrom i n pg) < n → childAt pg j ≡ child
+unfolding childrenFrom firstWhere
+place-child child zero i j pg e h = absurd (omega arith)
+place-child child (suc n) i j pg e h = by-test (eqb (childAt pg i) child) refl (λ k l. place-child child n (i + 1) j pg k l) e h
+  where
+    by-test : (b : Bool) → eqb (childAt pg i) child ≡ b
+        → (j ≡ i + 1 + childPlace child (childrenFrom (i + 1) n pg) → childPlace child (childrenFrom (i + 1) n pg) < n → childAt pg j ≡ child)
+        → j ≡ i + pick b 0 (suc (childPlace child (childrenFrom (i + 1) n pg))) → pick b 0 (suc (childPlace child (childrenFrom (i + 1) n pg))) < suc n → childAt pg j ≡ child
+    by-test true q ih u l = let w : j ≡ i = omega arith in rw w (eqb-true (childAt pg i) child q)
+    by-test false q ih u l = ih (omega arith) (omega arith)
+
+-- "hold the child": the child at that place is p
+pub held-child : {used p q : ℕ} {s : List ℕ} (h : Held used p q s) → childAt (page q s) (childPlace p (childrenFrom 0 (h .keys + 1) (page q s))) ≡ p
+held-child {p = p} {q = q} {s = s} h =
+    let l = h .place in
+    place-child p (h .keys + 1) 0 (childPlace p (childrenFrom 0 (h .keys + 1) (page q s))) (page q s) (omega arith) (omega arith)
+
+-- the pages above p, one after another, up to the root
+abbrev pub Rises : (used root p : ℕ) → (s above : List ℕ) → Type 0
+Rises used root p s [] = (p ≡ root) × (parentOf (page p s) ≡ 0)
+Rises used root p s (q ∷ qs) = (p ≡ root → ⊥) × Held used p q s × Rises used root q s qs
+
+pub record Risen (k used root p : ℕ) (s ps : List ℕ) : Type 0 where
+  pub above : List ℕ
+  pub is : ps ≡ p ∷ above
+  pub few : length above ≤ k
+  pub rises : Rises used root p s above
+
+module _ (used root : ℕ) (s : List ℕ) where
+  root-risen : (k p : ℕ) {ps : List ℕ} → p ≡ root → rootWay p s ≡ up ps → Risen k used root p s ps
+  root-risen k p {ps} h e = by-parent (eqb (parentOf (page p s)) 0) refl e
+    where
+      by-parent : (b : Bool) → eqb (parentOf (page p s)) 0 ≡ b → pick b (up (p ∷ [])) (astray (structural p)) ≡ up ps → Risen k used root p s ps
+      by-parent true q u = record { above = []; is = cc; few = omega arith; rises = (h, eqb-true (parentOf (page p s)) 0 q) }
+      by-parent false q u = absurd (let z : _≡_ {A = ℕ} 0 1 = cc in omega arith)
+
+  -- what a climb that came to the root went through
+  pub climb-risen : (k p : ℕ) {ps : List ℕ} → climbOf k used root p s ≡ up ps → Risen k used root p s ps
+  unfolding climbOf
+  climb-risen zero p {ps} e = by-root (eqb p root) refl e
+    where
+      by-root : (b : Bool) → eqb p root ≡ b → pick b (rootWay p s) (astray (structural p)) ≡ up ps → Risen 0 used root p s ps
+      by-root true q u = root-risen 0 p (eqb-true p root q) u
+      by-root false q u = absurd (let z : _≡_ {A = ℕ} 0 1 = cc in omega arith)
+  climb-risen (suc k) p {ps} e = by-root (λ q qs u. climb-risen k q {ps = qs} u) (eqb p root) refl e
+    where
+      by-way : (q : ℕ) (w : Way) → ((qs : List ℕ) → w ≡ up qs → Risen k used root q s qs) → (p ≡ root → ⊥) → Held used p q s → below p w ≡ up ps → Risen (suc k) used root p s ps
+      by-way q (up qs) ih z h u =
+          let r = ih qs refl in
+          let e = r .is in
+          let f = r .few in
+          record { above = q ∷ r .above; is = cc; few = omega arith; rises = (z, h, r .rises) }
+      by-way q (astray f) ih z h u = absurd (let z : _≡_ {A = ℕ} 0 1 = cc in omega arith)
+
+      by-above : ((q : ℕ) (qs : List ℕ) → climbOf k used root q s ≡ up qs → Risen k used root q s qs) → (p ≡ root → ⊥) → (a : Above) → aboveOf used p s ≡ a
+          → onAbove (λ q. below p (climbOf k used root q s)) (λ f. astray f) a ≡ up ps → Risen (suc k) used root p s ps
+      by-above ih z (Above.Page q) t u = by-way q (climbOf k used root q s) (ih q) z (held used p s t) u
+      by-above ih z (Above.Bad f) t u = absurd (let z : _≡_ {A = ℕ} 0 1 = cc in omega arith)
+
+      by-root : ((q : ℕ) (qs : List ℕ) → climbOf k used root q s ≡ up qs → Risen k used root q s qs) → (b : Bool) → eqb p root ≡ b
+          → pick b (rootWay p s) (onAbove (λ q. below p (climbOf k used root q s)) (λ f. astray f) (aboveOf used p s)) ≡ up ps → Risen (suc k) used root p s ps
+      by-root ih true q u = root-risen (suc k) p (eqb-true p root q) u
+      by-root ih false q u = by-above ih (eqb-false p root q) (aboveOf used p s) refl u
+
+  rises-used : (p : ℕ) (l : List ℕ) → p < used → Rises used root p s l → (i : ℕ) → i < suc (length l) → getD (p ∷ l) i 0 < used
+  rises-used p l h r zero b = h
+  rises-used p [] h r (suc i) b = absurd (omega arith)
+  rises-used p (q ∷ qs) h r (suc i) b = rises-used q qs (r .1 .in-use) (r .2) i (omega arith)
+
+  rises-held : (p : ℕ) (l : List ℕ) → Rises used root p s l → (i : ℕ) → i < length l → Held used (getD (p ∷ l) i 0) (getD l i 0) s
+  rises-held p [] r i b = absurd (omega arith)
+  rises-held p (q ∷ qs) r zero b = r .1
+  rises-held p (q ∷ qs) r (suc i) b = rises-held q qs (r .2) i (omega arith)
+
+  rises-top : (p : ℕ) (l : List ℕ) → Rises used root p s l → (getD (p ∷ l) (length l) 0 ≡ root) × (parentOf (page root s) ≡ 0)
+  rises-top p [] r = (r .0, rw (r .0) at (r .1))
+  rises-top p (q ∷ qs) r = rises-top q qs (r .2)
+
+  rises-drop : (p : ℕ) (l : List ℕ) → Rises used root p s l → (i : ℕ) → i ≤ length l → Rises used root (getD (p ∷ l) i 0) s (drop i l)
+  rises-drop p l r zero b = r
+  rises-drop p [] r (suc i) b = absurd (omega arith)
+  rises-drop p (q ∷ qs) r (suc i) b = rises-drop q qs (r .2) i (omega arith)
+
+  -- the page alone says what is above it
+  rises-same : (p : ℕ) (l m : List ℕ) → Rises used root p s l → Rises used root p s m → length l ≡ length m
+  rises-same p [] [] a b = refl
+  rises-same p [] (y ∷ ys) a b = absurd (b .0 (a .0))
+  rises-same p (x ∷ xs) [] a b = absurd (a .0 (b .0))
+  rises-same p (x ∷ xs) (y ∷ ys) a b =
+      let e : y ≡ x = sym (b .1 .named) ∙ a .1 .named in
+      ap suc (rises-same x xs ys (a .2) (subst (λ (z : ℕ). Rises used root z s ys) e (b .2)))
+
+  -- so no page comes again
+  rises-apart : (p : ℕ) (l : List ℕ) → Rises used root p s l → (i j : ℕ) → i < j → j ≤ length l → getD (p ∷ l) j 0 ≡ getD (p ∷ l) i 0 → ⊥
+  rises-apart p l r i j h b e =
+      let a = rises-drop p l r i (omega arith) in
+      let c = subst (λ (z : ℕ). Rises used root z s (drop j l)) e (rises-drop p l r j b) in
+      let same : length l - i ≡ length l - j = rw (length-drop i l, length-drop j l) at (rises-same (getD (p ∷ l) i 0) (drop i l) (drop j l) a c) in
+      omega arith
+
+-- the path by its places, as a later store needs it
+pub record PathIs (used root p : ℕ) (s ps : List ℕ) : Type 0 where
+  pub some : 0 < length ps
+  pub four : length ps ≤ 4
+  pub first : getD ps 0 0 ≡ p
+  pub last : getD ps (length ps - 1) 0 ≡ root
+  pub top : parentOf (page root s) ≡ 0
+  pub in-use : (i : ℕ) → i < length ps → getD ps i 0 < used
+  pub held-by : (i : ℕ) → i + 1 < length ps → Held used (getD ps i 0) (getD ps (i + 1) 0) s
+  pub apart : (i j : ℕ) → i < j → j < length ps → getD ps j 0 ≡ getD ps i 0 → ⊥
+
+pub path-is : (used root p : ℕ) (s : List ℕ) {ps : List ℕ} → p < used → climbOf 3 used root p s ≡ up ps → PathIs used root p s ps
+path-is used root p s {ps} h e =
+    let r = climb-risen used root s 3 p {ps = ps} e in
+    subst (λ (l : List ℕ). PathIs used root p s l) (sym (r .is)) (of-risen (r .above) (r .few) (r .rises))
+  where
+    of-risen : (l : List ℕ) → length l ≤ 3 → Rises used root p s l → PathIs used root p s (p ∷ l)
+    of-risen l f r =
+        let m : suc (length l) - 1 ≡ length l = omega arith in
+        let t = rises-top used root s p l r in
+        record {
+          some = omega arith;
+          four = omega arith;
+          first = refl;
+          last = rw m (t .0);
+          top = t .1;
+          in-use = λ i b. rises-used used root s p l h r i b;
+          held-by = λ i b. let n : i + 1 ≡ suc i = omega arith in rw n (rises-held used root s p l r i (omega arith));
+          apart = λ i j a b. rises-apart used root s p l r i j a (omega arith);
+        }
+
+-- ---- the code's answer
+
+pub record Reached (w : Way) (r : Climbed) : Type 0 where
+  pub pages : List ℕ
+  pub way : w ≡ up pages
+  pub path : r .path ≡ pathOf pages
+
+pub reached : (w : Way) {r : Climbed} → r ≡ climbed w → r .ok ≡ true → Reached w r
+reached (up ps) e t = record { pages = ps; way = refl; path = rw e }
+reached (astray f) e t = absurd (let z : _≡_ {A = Bool} false true = rw e at t in let y : _≡_ {A = ℕ} 0 1 = cc in omega arith)
+
+pub strayed : (w : Way) {r : Climbed} → r ≡ climbed w → r .ok ≡ false → w ≡ astray (r .fault)
+strayed (up ps) e t = absurd (let z : _≡_ {A = Bool} true false = rw e at t in let y : _≡_ {A = ℕ} 0 1 = cc in omega arith)
+strayed (astray f) e t = rw e
+
+-- place i of the path that is handed on
+pub path-at : (ps : List ℕ) (i : ℕ) → i < length ps → getD (pathOf ps .pages) i 0 ≡ getD ps i 0
+unfolding pad
+path-at ps i h = List·getD-append ps (zeros (4 - length ps)) 0 i h
