@@ -1,3 +1,5 @@
 -- What a reader of the contracts of `tree` has to believe.
 pub mod Descend
 pub mod Chain
+pub mod Check
+pub mod CheckFacts
