@@ -115,3 +115,88 @@ module _ (used parent p lo hi : ℕ) (s : List ℕ) where
 
         pub inner-ok : {k l : ℕ} → k ≡ keyAt pg 0 → lo ≤ k → l ≡ keyAt pg (n - 1) → l ≤ hi → InnerSound.Ok n ≡ innerSound used parent p lo hi s
         inner-ok e a f b = by-keys (all-in lo hi pg 0 n (n - 1) 0 (n - 1) (omega (arith, facts .some)) (omega arith) (rw e at a) (rw f at b) (facts .rises) .1)
+
+-- what the answer for an internal page says
+module _ (used parent p lo hi : ℕ) (s : List ℕ) {r : InnerSound} (said : r ≡ innerSound used parent p lo hi s) where
+  inner-ill : r ≡ InnerSound.Ill → soundInner used parent p lo hi s ≡ false
+  inner-ill e = by-test (soundInner used parent p lo hi s) (sym said ∙ e)
+    where
+      by-test : (b : Bool) → pick b (InnerSound.Ok (cellCount (page p s))) InnerSound.Ill ≡ InnerSound.Ill → b ≡ false
+      by-test true u = absurd (let z : _≡_ {A = ℕ} 0 1 = cc in omega arith)
+      by-test false u = refl
+
+  inner-well : {n : ℕ} → r ≡ InnerSound.Ok n → (soundInner used parent p lo hi s ≡ true) × (cellCount (page p s) ≡ n)
+  inner-well {n} e = by-test (soundInner used parent p lo hi s) (sym said ∙ e)
+    where
+      by-test : (b : Bool) → pick b (InnerSound.Ok (cellCount (page p s))) InnerSound.Ill ≡ InnerSound.Ok n → (b ≡ true) × (cellCount (page p s) ≡ n)
+      by-test true u = (refl, cc)
+      by-test false u = absurd (let z : _≡_ {A = ℕ} 0 1 = cc in omega arith)
+
+  -- what a sound internal page gives its readers
+  pub inner-there : {n : ℕ} → r ≡ InnerSound.Ok n → (p < used) × (n ≤ 510)
+  unfolding soundInner
+  inner-there {n} e =
+      let w = inner-well e in
+      let judged = onInner (λ m. allWithin lo hi (keysOf (page p s))) (λ f. false) (judgeInner p (page p s)) in
+      let a = and-both (ltb p used) (eqb (parentOf (page p s)) parent && judged) (w .0) in
+      let b = and-both (eqb (parentOf (page p s)) parent) judged (a .1) in
+      (ltb-true p used (a .0), by-judged (w .1) (judgeInner p (page p s)) refl (b .1))
+    where
+      by-judged : cellCount (page p s) ≡ n → (j : InnerJudged) → judgeInner p (page p s) ≡ j
+          → onInner (λ m. allWithin lo hi (keysOf (page p s))) (λ f. false) j ≡ true → n ≤ 510
+      by-judged c (InnerJudged.Ok m) q u = let i = inner-is p (page p s) (sym q) refl in omega (arith, i .few, i .count)
+      by-judged c (InnerJudged.Bad f) q u = absurd (let z : _≡_ {A = ℕ} 0 1 = cc in omega arith)
+
+-- ---- a subtree
+
+module _ (used : ℕ) (s : List ℕ) (parent p lo hi next : ℕ) where
+  pub check-last : (k : ℕ) {v : Verdict} → k ≡ 0 → v ≡ checkOf 0 used s parent p lo hi next → v ≡ checkOf k used s parent p lo hi next
+  check-last k e q = q ∙ rw e
+
+  module _ {b : Bool} (said : b ≡ soundLeaf used parent p lo hi s) where
+    pub check-unsound : b ≡ false → Verdict.Ill ≡ checkOf 0 used s parent p lo hi next
+    unfolding checkOf
+    check-unsound t = rw (sym said ∙ t)
+
+    module _ {pg : List ℕ} {n : ℕ} (good : b ≡ true) (here : pg ≡ page p s) (link : n ≡ nextLeaf pg) where
+      pub check-first : n ≡ next → Verdict.First p ≡ checkOf 0 used s parent p lo hi next
+      unfolding checkOf
+      check-first e = rw (sym said ∙ good, ← here, eq-eqb (nextLeaf pg) next (sym link ∙ e))
+
+      pub check-astray : (n ≡ next → ⊥) → Verdict.Ill ≡ checkOf 0 used s parent p lo hi next
+      unfolding checkOf
+      check-astray z = rw (sym said ∙ good, ← here, ne-eqb (nextLeaf pg) next (λ e. z (link ∙ e)))
+
+  module _ {r : InnerSound} (said : r ≡ innerSound used parent p lo hi s) (m : ℕ) {k : ℕ} (above : k ≡ suc m) where
+    pub check-stray : r ≡ InnerSound.Ill → Verdict.Ill ≡ checkOf k used s parent p lo hi next
+    unfolding checkOf
+    check-stray e = rw (above, inner-ill used parent p lo hi s said e)
+
+    pub check-kids : {n : ℕ} {pg : List ℕ} → r ≡ InnerSound.Ok n → pg ≡ page p s → kidsOf (checkOf m used s p) lo n hi next pg ≡ checkOf k used s parent p lo hi next
+    unfolding checkOf
+    check-kids e here = let w = inner-well used parent p lo hi s said e in rw (above, w .0, w .1, here)
+
+-- ---- the children of a page, from the last to the first
+
+module _ (f : ℕ → ℕ → ℕ → ℕ → Verdict) (lo hi next : ℕ) (pg : List ℕ) where
+  pub kids-end : (j : ℕ) {c : ℕ} {v : Verdict} → j ≤ 0 → c ≡ childAt pg 0 → v ≡ f c lo hi next → v ≡ kidsOf f lo j hi next pg
+  unfolding kidsOf
+  kids-end zero h e q = q ∙ rw e
+  kids-end (suc j) h e q = absurd (omega arith)
+
+  module _ (m : ℕ) {j c k : ℕ} {v : Verdict} (before : j ≡ suc m) (child : c ≡ childAt pg j) (key : k ≡ keyAt pg m) (said : v ≡ f c k hi next) where
+    judged : f (childAt pg (suc m)) (keyAt pg m) hi next ≡ v
+    judged = sym (said ∙ rw (child, before, key))
+
+    pub kids-ill : v ≡ Verdict.Ill → Verdict.Ill ≡ kidsOf f lo j hi next pg
+    unfolding kidsOf
+    kids-ill e = rw (before, judged ∙ e)
+
+    -- page 0 is no leaf but the first
+    pub kids-zero : {q : ℕ} → v ≡ Verdict.First q → q ≡ 0 → Verdict.Ill ≡ kidsOf f lo j hi next pg
+    unfolding kidsOf
+    kids-zero {q} e z = rw (before, judged ∙ e, eq-eqb q 0 z)
+
+    pub kids-on : {q : ℕ} → v ≡ Verdict.First q → (q ≡ 0 → ⊥) → kidsOf f lo m k q pg ≡ kidsOf f lo j hi next pg
+    unfolding kidsOf
+    kids-on {q} e z = rw (before, judged ∙ e, ne-eqb q 0 z, key)
