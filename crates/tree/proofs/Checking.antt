@@ -1,6 +1,6 @@
 -- The ways out of the check of a tree, one law each: a leaf, an internal page, a subtree, the tree. Assumes nothing.
 use mathlib.Core.Path.{_≡_, refl, sym, ap, _∙_}
-use mathlib.Core.Bool.{Bool, true, false, _&&_, and-false}
+use mathlib.Core.Bool.{Bool, true, false, _&&_, _||_, and-false, or-false}
 use mathlib.Core.List.{List}
 use Prim.Native.Nat.{ℕ, zero, suc, _+_, _-_, _≤_, _<_}
 use native.Mathlib.Omega.{arith}
@@ -13,7 +13,7 @@ use Rattle.row.specs.declared.Fault.{Fault}
 use Rattle.inner.specs.Inner.{keyAt, childAt, keysFrom, keysOf, neverFalls, judgeInner}
 use Rattle.inner.specs.declared.InnerJudged.{InnerJudged}
 use Rattle.tree.specs.Descend.{onInner}
-use Rattle.tree.specs.Check.{within, allWithin, cellsWithin, soundLeaf, soundInner, innerSound, kidsOf, checkOf}
+use Rattle.tree.specs.Check.{within, allWithin, cellsWithin, soundLeaf, soundInner, innerSound, wellAt, wellFormed, kidsOf, checkOf, isFirst}
 use Rattle.tree.specs.declared.check.Verdict.{Verdict}
 use Rattle.tree.specs.declared.check.InnerSound.{InnerSound}
 use Rattle.tree.proofs.Ways.{and-both, InnerIs, inner-is}
@@ -200,3 +200,28 @@ module _ (f : ℕ → ℕ → ℕ → ℕ → Verdict) (lo hi next : ℕ) (pg : 
     pub kids-on : {q : ℕ} → v ≡ Verdict.First q → (q ≡ 0 → ⊥) → kidsOf f lo m k q pg ≡ kidsOf f lo j hi next pg
     unfolding kidsOf
     kids-on {q} e z = rw (before, judged ∙ e, ne-eqb q 0 z, key)
+
+-- ---- the tree
+
+-- with n numbers of levels, from k on
+unfoldable pub wellFrom : (n k used root : ℕ) → List ℕ → Bool
+wellFrom zero k used root s = false
+wellFrom (suc n) k used root s = wellAt k used root s || wellFrom n (k + 1) used root s
+
+module _ (used root : ℕ) (s : List ℕ) where
+  pub well-all : wellFrom 4 0 used root s ≡ wellFormed used root s
+  unfolding wellFrom wellFormed
+  well-all = rw (or-false (wellAt 3 used root s))
+
+  pub well-none : (n k : ℕ) → n ≡ 0 → false ≡ wellFrom n k used root s
+  unfolding wellFrom
+  well-none n k e = rw e
+
+  module _ (k m : ℕ) {n : ℕ} {v : Verdict} (left : n ≡ suc m) (said : isFirst v ≡ wellAt k used root s) where
+    pub well-here : {q : ℕ} → v ≡ Verdict.First q → true ≡ wellFrom n k used root s
+    unfolding wellFrom
+    well-here e = rw (left, sym said ∙ ap isFirst e)
+
+    pub well-on : v ≡ Verdict.Ill → wellFrom m (k + 1) used root s ≡ wellFrom n k used root s
+    unfolding wellFrom
+    well-on e = rw (left, sym said ∙ ap isFirst e)
