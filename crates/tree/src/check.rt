@@ -68,10 +68,10 @@ fn sound_leaf(pool: &[u8], used: u32, parent: u32, p: u32, lo: u32, hi: u32) -> 
         return false;
     }
     let pg = page::pool::page_of(pool, p);
-    if page::get_parent(pg) != parent {
-        return false;
+    if page::get_parent(pg) == parent {
+        return cells_within(pg, p, lo, hi);
     }
-    cells_within(pg, p, lo, hi)
+    false
 }
 
 // The keys never fall, so the first and the last tell for all.
