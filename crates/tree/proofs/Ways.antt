@@ -28,7 +28,7 @@ pub record InnerIs (pg : List ℕ) (n : ℕ) : Type 0 where
   pub few : n ≤ 510
   pub rises : neverFalls 0 (keysFrom 0 n pg) ≡ true
 
-and-both : (a b : Bool) → (a && b) ≡ true → (a ≡ true) × (b ≡ true)
+pub and-both : (a b : Bool) → (a && b) ≡ true → (a ≡ true) × (b ≡ true)
 and-both true b e = (refl, e)
 and-both false b e = absurd (let z : _≡_ {A = ℕ} 0 1 = cc in omega arith)
 
