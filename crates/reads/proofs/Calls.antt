@@ -23,6 +23,7 @@ use Rattle.mvcc.specs.declared.Current.{Current}
 use Rattle.tree.specs.Descend.{descendOf}
 use Rattle.leaf.specs.declared.find.Best.{Best}
 use Rattle.tree.specs.Chain.{bestAlong, testAlong}
+use Rattle.tree.specs.Check.{wellFormed}
 use Rattle.tree.proofs.Found.{FoundIn, best-in}
 use Rattle.tree.specs.declared.Route.{Route}
 use Rattle.tree.specs.declared.Descent.{Descent}
@@ -32,6 +33,7 @@ use Rattle.reads.specs.Answer.{Outcome, done, refused}
 use Rattle.reads.specs.Create.{rooted, createdPool, createCall, createAfter}
 use Rattle.reads.specs.Find.{plain, badTree, lookedBest, onLeaf, lookOf, findVisibleRun, inPool, findVisibleCall}
 use Rattle.reads.specs.Conflict.{toldTest, conflictOf, conflictCall}
+use Rattle.reads.specs.Check.{checkCall}
 use Rattle.reads.specs.declared.Looked.{Looked}
 use Rattle.reads.specs.declared.Refusal.{Refusal}
 
@@ -174,3 +176,14 @@ module _ (s : List ℕ) (state : State) (key seen xmax : ℕ) (active : List ℕ
         → r ≡ conflictCall s state key seen xmax active cur
     unfolding conflictCall
     conflict-test e t k u = u ∙ rw (sym pool ∙ pool-good, sym e ∙ t, k)
+
+-- ---- check
+
+module _ (s : List ℕ) (state : State) {a : Bool} (pool : a ≡ goodPool s state) where
+  pub check-pool : a ≡ false → refused 1 ≡ checkCall s state
+  unfolding checkCall
+  check-pool t = rw (sym pool ∙ t)
+
+  pub check-told : {b : Bool} → a ≡ true → b ≡ wellFormed (state .used) (state .root) s → done b ≡ checkCall s state
+  unfolding checkCall
+  check-told t e = rw (sym pool ∙ t, e)

@@ -23,7 +23,7 @@ done a = record { number = 0; gives = value a }
 abbrev pub refused : {A : Type 0} → ℕ → Outcome A
 refused n = record { number = n; gives = nothing }
 
--- 0 Done with the new state (create), the version (lookup), yes or no (conflict); the others by their number
+-- 0 Done with the new state (create), the version (lookup), yes or no (check, conflict); the others by their number
 abbrev pub ofCreated : Created → Outcome State
 ofCreated (Created.Done st) = done st
 ofCreated (Created.Refused n) = refused n

@@ -11,6 +11,7 @@ ghost use Rattle.reads.specs.Answer.{ofCreated, ofFound, ofTold};
 ghost use Rattle.reads.specs.Create.{rooted, createdPool, createCall, createAfter};
 ghost use Rattle.reads.specs.Find.{plain, lookedBest, lookOf, findVisibleRun, inPool, findVisibleCall, findCall};
 ghost use Rattle.reads.specs.Conflict.{toldTest, conflictOf, conflictCall};
+ghost use Rattle.reads.specs.Check.{checkCall};
 use leaf::find::Best;
 use mvcc::Current;
 use page::pool::State;
@@ -289,6 +290,16 @@ pub fn has_write_conflict(
             return conflict_at(pool, st, rank, seen, xmax, active, cur);
         }
         return Told::Refused(3);
+    }
+    Told::Refused(1)
+}
+
+// Whether the tree is well-formed; it never says BadTree.
+pub fn check(pool: &[u8], st: State) -> Told
+    ensures { λ r. ⌜ ofTold r ≡ checkCall (now (pool .entry)) st ⌝ }
+{
+    if page::pool::pool_is_good(pool, st) {
+        return Told::Done(tree::check::check_tree(pool, st.used, st.root));
     }
     Told::Refused(1)
 }

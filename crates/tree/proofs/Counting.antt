@@ -22,7 +22,8 @@ use Rattle.leaf.specs.declared.find.Best.{Best}
 use Rattle.leaf.specs.declared.find.LeafBest.{LeafBest}
 use Rattle.leaf.specs.declared.find.LeafTest.{LeafTest}
 use Rattle.tree.specs.Chain.{Seen, stop, go, broken, Told, ok, ill, along, seenBest, seenTest, lookBest, lookTest}
-use Rattle.tree.specs.ChainFacts.{distinct, met, turn, Steady, CountIsEnough, Ill, TwiceIsIll}
+use Rattle.tree.specs.ChainFacts.{met, turn, Steady, CountIsEnough, Ill, TwiceIsIll}
+use Rattle.tree.specs.Distinct.{distinct}
 use Rattle.tree.proofs.Ways.{and-both}
 
 -- ---- numbers that stand once each

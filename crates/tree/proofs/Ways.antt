@@ -25,6 +25,8 @@ use Rattle.tree.specs.declared.Descent.{Descent}
 
 -- what a judged internal page gives its readers
 pub record InnerIs (pg : List ℕ) (n : ℕ) : Type 0 where
+  pub count : cellCount pg ≡ n
+  pub some : 1 ≤ n
   pub few : n ≤ 510
   pub rises : neverFalls 0 (keysFrom 0 n pg) ≡ true
 
@@ -43,7 +45,12 @@ inner-is p pg {r} {n} e q = by-test (eqb (nodeType pg) 0 && (leb 1 (cellCount pg
         let b = and-both (leb 1 (cellCount pg)) (leb (cellCount pg) 510 && neverFalls 0 (keysOf pg)) (a .1) in
         let c = and-both (leb (cellCount pg) 510) (neverFalls 0 (keysOf pg)) (b .1) in
         let same : cellCount pg ≡ n = cc in
-        record { few = rw same at (leb-true (cellCount pg) 510 (c .0)); rises = rw same at (c .1) }
+        record {
+          count = same;
+          some = rw same at (leb-true 1 (cellCount pg) (b .0));
+          few = rw same at (leb-true (cellCount pg) 510 (c .0));
+          rises = rw same at (c .1);
+        }
     by-test false t u = absurd (let z : _≡_ {A = ℕ} 0 1 = cc in omega arith)
 
 module _ (s : List ℕ) (p n : ℕ) {pg : List ℕ} {route : Route} (here : pg ≡ page p s) where

@@ -2,7 +2,7 @@
 -- walk counts at most as many leaves as there are pages in use; the statements say that this count ends it exactly where a
 -- page would be met twice.
 use mathlib.Core.Path.{_≡_}
-use mathlib.Core.Bool.{Bool, true, false, not, _&&_}
+use mathlib.Core.Bool.{true, false}
 use mathlib.Core.List.{List, [], _∷_}
 use Prim.Native.Nat.{ℕ, zero, suc, _≤_}
 use lib.Dec.{ltb, eqb}
@@ -10,13 +10,8 @@ use Rattle.store.specs.Pick.{pick}
 use Rattle.page.specs.Page.{page}
 use Rattle.page.specs.Header.{nextLeaf}
 use Rattle.row.specs.declared.Fault.{Fault}
-use Rattle.mvcc.specs.Lists.{mem}
+use Rattle.tree.specs.Distinct.{distinct}
 use Rattle.tree.specs.Chain.{Seen, Told, ok, ill, onSeen, along}
-
--- no number stands twice
-unfoldable pub distinct : List ℕ → Bool
-distinct [] = true
-distinct (x ∷ xs) = not (mem x xs) && distinct xs
 
 -- the pages that a walk meets, m at most
 unfoldable pub met : {A : Type 0} → (A → ℕ → List ℕ → Seen A) → (used m : ℕ) → A → ℕ → List ℕ → List ℕ
