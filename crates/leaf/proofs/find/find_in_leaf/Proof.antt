@@ -1,11 +1,12 @@
 -- `leaf::find::find_in_leaf` meets its contract. Assumes nothing.
-use Rattle.leaf.proofs.Finding.{loop-type, loop-bad, loop-done}
+use Rattle.leaf.proofs.Finding.{newest-other, loop-type, loop-bad, loop-done}
 use Rattle.leaf.proofs.Walking.{walk, walk-bad, walk-in, walk-done, step-next}
 use Rattle.leaf.specs.declared.find.LeafBest.{LeafBest}
 use Rattle.leaf.specs.Find.{newest, findLeaf}
 use Rattle.mvcc.specs.Lists.{lookup}
 use native.Mathlib.Omega.{arith}
 use Prim.Native.Nat.{_≤_}
+use mathlib.Core.Logic.{⊎-elim}
 use mathlib.Core.Path.{_≡_, refl, sym, _∙_}
 -- `leaf::find::find_in_leaf` meets its contract: the walk that is left gives what the whole walk gives. Assumes nothing.
 use borrow.Author.Needs.{needs}
@@ -60,7 +61,7 @@ loop-less : tie.Need-loop-less Inv-loop μ-loop
 loop-less c = search needs
 
 loop-again : tie.Need-loop-again Inv-loop μ-loop
-loop-again c = (omega (arith, step-next _ _ _ _ _ (c .before .before .before .before .before .next-cell .ensures) (c .before .before .before .x .given .1)), walk-in _ _ _ _ _ _ _ _ (search needs) (c .before .before .before .before .before .next-cell .ensures) (c .before .before .before .x .given .1) (c .newest-of .ensures) ∙ c .before .before .before .before .before .before .before .loop .inv .1)
+loop-again c = (omega (arith, step-next _ _ _ _ _ (c .before .before .before .before .before .next-cell .ensures) (c .before .before .before .x .given .1)), walk-in _ _ _ _ _ _ _ _ (search needs) (c .before .before .before .before .before .next-cell .ensures) (c .before .before .before .x .given .1) (⊎-elim (λ w. w .2 ∙ w .1 .ensures) (λ w. w .1 ∙ newest-other _ _ _ _ _ _ _ _ (w .0 .left)) (c .if2 .came)) ∙ c .before .before .before .before .before .before .before .loop .inv .1)
 
 returns-3 : tie.Need-returns-3 Inv-loop μ-loop
 unfolding findLeaf
