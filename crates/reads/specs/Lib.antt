@@ -3,3 +3,4 @@ pub mod Answer
 pub mod Create
 pub mod Find
 pub mod Conflict
+pub mod Listings
