@@ -1,3 +1,4 @@
 pub mod Recorded
 pub mod Running
 pub mod Gathering
+pub mod Answering
