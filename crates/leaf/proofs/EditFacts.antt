@@ -66,7 +66,7 @@ module _ (s : List ℕ) where
   chain-right at [] ys h = h
   chain-right at (x ∷ xs) ys h = chain-right (x .next) xs ys (h .1)
 
-  pub chain-grows : (at : ℕ) (cs : List Cell) → Chain s at cs → at ≤ endOf at cs
+  chain-grows : (at : ℕ) (cs : List Cell) → Chain s at cs → at ≤ endOf at cs
   unfolding endOf
   chain-grows at [] h = omega arith
   chain-grows at (c ∷ cs) h =

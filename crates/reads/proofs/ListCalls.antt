@@ -5,7 +5,7 @@ use mathlib.Core.List.{List}
 use Prim.Native.Nat.{ℕ}
 use Rattle.page.specs.Pool.{goodPool}
 use Rattle.page.specs.declared.pool.State.{State}
-use Rattle.listing.specs.Listed.{Written, written}
+use Rattle.listing.specs.Listed.{written}
 use Rattle.listing.specs.declared.Listing.{Listing}
 use Rattle.versions.specs.Listed.{listTree}
 use Rattle.versions.specs.declared.Which.{Which}

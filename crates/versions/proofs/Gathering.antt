@@ -7,7 +7,6 @@ use Prim.Native.Nat.{ℕ, zero, suc, _+_, _-_, _*_, _≤_, _<_}
 use native.Mathlib.Omega.{arith}
 use lib.Dec.{ltb, eqb}
 use lib.ListN.{length, length-append}
-use borrow.Author.Tests.{ltb-true}
 use Rattle.store.specs.Pick.{pick}
 use Rattle.store.specs.Le.{AreBytes}
 use Rattle.store.specs.Part.{put}
@@ -22,7 +21,7 @@ use Rattle.leaf.specs.declared.Judged.{Judged}
 use Rattle.leaf.specs.declared.find.Run.{Run}
 use Rattle.leaf.specs.declared.find.LeafRun.{LeafRun}
 use Rattle.leaf.proofs.Dividing.{bytes-page}
-use Rattle.tree.specs.Chain.{Seen, stop, go, broken, Told, ok, ill, onSeen, along}
+use Rattle.tree.specs.Chain.{stop, go, broken, Told, ok, ill, onSeen, along}
 use Rattle.tree.proofs.Ways.{along-again, along-unused, along-bad, along-last, along-end, along-on}
 use Rattle.listing.specs.Records.{records}
 use Rattle.versions.specs.Gather.{wanted, ends, lookRows, rowsAlong, rowsTold, IsOk, sizeTold, runOf, againOf}

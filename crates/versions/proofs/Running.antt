@@ -6,7 +6,7 @@ use mathlib.Core.List.{List, [], _∷_, _++_, map}
 use Prim.Native.Nat.{ℕ, _+_, _-_, _*_, _≤_, _<_}
 use native.Mathlib.Omega.{arith}
 use native.Mathlib.Numerals.{lt-of-le-of-ne}
-use borrow.Author.Tests.{ltb-true, ltb-false, eqb-true, eqb-false, ne-eqb, eq-eqb}
+use borrow.Author.Tests.{ltb-true, ltb-false, eqb-true, eqb-false, ne-eqb}
 use lib.Dec.{ltb, eqb}
 use lib.ListN.{length}
 use Rattle.store.specs.Pick.{pick}
@@ -15,7 +15,7 @@ use Rattle.page.specs.Header.{cellCount}
 use Rattle.row.specs.declared.Cell.{Cell}
 use Rattle.row.specs.declared.Fault.{Fault}
 use Rattle.row.proofs.Exact.{cell-placed}
-use Rattle.leaf.specs.Cells.{cellsOf, cells, foldCells, judgeLeaf, onJudged, hasLarger}
+use Rattle.leaf.specs.Cells.{cellsOf, cells, foldCells, judgeLeaf, onJudged}
 use Rattle.leaf.specs.Find.{running, runLeaf}
 use Rattle.leaf.specs.Rows.{Row, rowOf, rowsOf, rows}
 use Rattle.leaf.specs.declared.Judged.{Judged}
@@ -24,9 +24,9 @@ use Rattle.leaf.specs.declared.find.LeafRun.{LeafRun}
 use Rattle.leaf.proofs.Finding.{order-le, running-below, running-same, running-above}
 use Rattle.leaf.proofs.Rowing.{endOf}
 use Rattle.leaf.proofs.EditFacts.{Chain, chain-cells, chain-back, chain-inside, Rising, judged-leaf}
-use Rattle.tree.specs.Chain.{Seen, stop, go, broken}
+use Rattle.tree.specs.Chain.{stop, go, broken}
 use Rattle.listing.specs.Records.{records}
-use Rattle.versions.specs.Gather.{ofKey, wanted, ends, lookRows, runOf, onRun, againOf}
+use Rattle.versions.specs.Gather.{ofKey, wanted, ends, lookRows, runOf, againOf}
 use Rattle.versions.specs.declared.Which.{Which}
 use Rattle.versions.specs.declared.Again.{Again}
 use Rattle.versions.proofs.Recorded.{chain-records, chain-few}
