@@ -20,7 +20,7 @@ use Rattle.row.specs.declared.Fault.{Fault}
 use Rattle.row.proofs.Exact.{cell-placed}
 use Rattle.mvcc.specs.Lists.{rising, lookup, goodActive, goodStatuses, Judged}
 use Rattle.mvcc.specs.declared.Current.{Current}
-use Rattle.tree.specs.Descend.{descendOf}
+use Rattle.tree.specs.Descend.{descendOf, onLeaf}
 use Rattle.leaf.specs.declared.find.Best.{Best}
 use Rattle.tree.specs.Chain.{bestAlong, testAlong}
 use Rattle.tree.specs.Check.{wellFormed}
@@ -31,7 +31,7 @@ use Rattle.tree.specs.declared.ChainBest.{ChainBest}
 use Rattle.tree.specs.declared.ChainTest.{ChainTest}
 use Rattle.reads.specs.Answer.{Outcome, done, refused}
 use Rattle.reads.specs.Create.{rooted, createdPool, createCall, createAfter}
-use Rattle.reads.specs.Find.{plain, badTree, lookedBest, onLeaf, lookOf, findVisibleRun, inPool, findVisibleCall}
+use Rattle.reads.specs.Find.{plain, badTree, lookedBest, lookOf, findVisibleRun, inPool, findVisibleCall}
 use Rattle.reads.specs.Conflict.{toldTest, conflictOf, conflictCall}
 use Rattle.reads.specs.Check.{checkCall}
 use Rattle.reads.specs.declared.Looked.{Looked}

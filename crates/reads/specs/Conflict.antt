@@ -8,12 +8,11 @@ use Rattle.page.specs.Pool.{goodPool}
 use Rattle.page.specs.declared.pool.State.{State}
 use Rattle.mvcc.specs.Lists.{lookup, goodActive}
 use Rattle.mvcc.specs.declared.Current.{Current}
-use Rattle.tree.specs.Descend.{descendOf}
+use Rattle.tree.specs.Descend.{descendOf, onLeaf}
 use Rattle.tree.specs.Chain.{testAlong}
 use Rattle.tree.specs.declared.Route.{Route}
 use Rattle.tree.specs.declared.ChainTest.{ChainTest}
 use Rattle.reads.specs.Answer.{Outcome, done, refused}
-use Rattle.reads.specs.Find.{onLeaf}
 
 abbrev pub toldTest : ChainTest → Outcome Bool
 toldTest (ChainTest.Ok b) = done b

@@ -12,10 +12,9 @@ use Rattle.mvcc.specs.Lists.{lookup, goodActive, goodStatuses}
 use Rattle.mvcc.specs.Rules.{plainXmax, plainActive}
 use Rattle.mvcc.specs.declared.Current.{Current}
 use Rattle.leaf.specs.declared.find.Best.{Best}
-use Rattle.tree.specs.Descend.{descendOf}
+use Rattle.tree.specs.Descend.{descendOf, onLeaf}
 use Rattle.tree.specs.Chain.{bestAlong}
 use Rattle.tree.specs.declared.Route.{Route}
-use Rattle.tree.specs.declared.Descent.{Descent}
 use Rattle.tree.specs.declared.ChainBest.{ChainBest}
 use Rattle.reads.specs.Answer.{Outcome, done, refused}
 use Rattle.reads.specs.declared.Looked.{Looked}
@@ -33,11 +32,6 @@ abbrev pub lookedBest : ChainBest → Looked
 lookedBest (ChainBest.Ok (Best.At p c)) = Looked.At p c
 lookedBest (ChainBest.Ok Best.Nothing) = Looked.Refused (plain 8)
 lookedBest (ChainBest.Bad f) = Looked.Refused (badTree f)
-
--- from the leaf that search comes to
-abbrev pub onLeaf : {A : Type 0} → (ℕ → A) → (Fault → A) → Descent → A
-onLeaf good ill (Descent.Leaf p) = good p
-onLeaf good ill (Descent.Bad f) = ill f
 
 -- the search itself, on a pool and lists that were judged
 unfoldable pub lookOf : (ℕ → ℕ) → List ℕ → ℕ → Current → State → (key : ℕ) → List ℕ → Looked

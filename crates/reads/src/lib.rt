@@ -7,12 +7,15 @@ ghost use lib.ListN.{length};
 ghost use Rattle.page.specs.Header.{withNodeType, withIsRoot};
 ghost use Rattle.page.specs.Key.{rankOf};
 ghost use Rattle.mvcc.specs.Lists.{rising, lookup, Judged};
-ghost use Rattle.reads.specs.Answer.{ofCreated, ofFound, ofTold};
+ghost use Rattle.reads.specs.Answer.{ofCreated, ofFound, ofTold, ofListed};
 ghost use Rattle.reads.specs.Create.{rooted, createdPool, createCall, createAfter};
 ghost use Rattle.reads.specs.Find.{plain, lookedBest, lookOf, findVisibleRun, inPool, findVisibleCall, findCall};
 ghost use Rattle.reads.specs.Conflict.{toldTest, conflictOf, conflictCall};
 ghost use Rattle.reads.specs.Check.{checkCall};
+ghost use Rattle.listing.specs.Listed.{written};
+ghost use Rattle.reads.specs.Listings.{listedAt, listRun, toldListed, versionsOfCall, allVersionsCall};
 use leaf::find::Best;
+use listing::Listing;
 use mvcc::Current;
 use page::pool::State;
 use row::Cell;
@@ -22,6 +25,7 @@ use tree::ChainBest;
 use tree::ChainTest;
 use tree::Descent;
 use tree::Route;
+use versions::Which;
 
 // A refusal's number, and for a BadTree what was met and where.
 pub struct Refusal {
@@ -47,6 +51,17 @@ pub enum Found {
 
 pub enum Told {
     Done(bool),
+    Refused(u8),
+}
+
+// How long a listing is, with the fault behind a BadTree.
+pub enum ListedAt {
+    Done(usize),
+    Refused(Refusal),
+}
+
+pub enum Listed {
+    Done(usize),
     Refused(u8),
 }
 
@@ -302,4 +317,49 @@ pub fn check(pool: &[u8], st: State) -> Told
         return Told::Done(tree::check::check_tree(pool, st.used, st.root));
     }
     Told::Refused(1)
+}
+
+fn listed_at(r: Listing) -> ListedAt
+    ensures { λ q. ⌜ q ≡ listedAt r ⌝ }
+{
+    match r {
+        Listing::Done(n) => ListedAt::Done(n),
+        Listing::Short => ListedAt::Refused(plain_refusal(12)),
+        Listing::Bad(f) => ListedAt::Refused(Refusal {
+            number: 2,
+            fault: f,
+        }),
+    }
+}
+
+// The versions of a key by rank, or all, with the fault behind a BadTree.
+pub fn list_at(pool: &[u8], st: State, which: Which, out: &mut [u8]) -> ListedAt
+    ensures { λ r. ⌜ written r (now (out .exit)) ≡ listRun which (now (pool .entry)) st (now (out .entry)) ⌝ }
+{
+    if page::pool::pool_is_good(pool, st) {
+        return listed_at(versions::list_tree(pool, out, which, st.used, st.root));
+    }
+    ListedAt::Refused(plain_refusal(1))
+}
+
+fn listed_of(r: ListedAt) -> Listed
+    ensures { λ q. ⌜ ofListed q ≡ toldListed r ⌝ }
+{
+    match r {
+        ListedAt::Done(n) => Listed::Done(n),
+        ListedAt::Refused(f) => Listed::Refused(f.number),
+    }
+}
+
+pub fn versions_of(pool: &[u8], st: State, key: i32, out: &mut [u8]) -> Listed
+    ensures { λ r. ⌜ written (ofListed r) (now (out .exit)) ≡ versionsOfCall (now (pool .entry)) st (rankOf key) (now (out .entry)) ⌝ }
+{
+    let rank = page::key::rank_of(key);
+    listed_of(list_at(pool, st, Which::Key(rank), out))
+}
+
+pub fn all_versions(pool: &[u8], st: State, out: &mut [u8]) -> Listed
+    ensures { λ r. ⌜ written (ofListed r) (now (out .exit)) ≡ allVersionsCall (now (pool .entry)) st (now (out .entry)) ⌝ }
+{
+    listed_of(list_at(pool, st, Which::All, out))
 }
