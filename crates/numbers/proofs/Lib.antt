@@ -1,0 +1,5 @@
+pub mod Bits
+pub mod Lines
+pub mod Noting
+pub mod Tops
+pub mod Visits
