@@ -19,11 +19,11 @@ use Rattle.numbers.proofs.Tops.{PageIs, page-is}
 -- ---- how a walk ends
 
 module _ (seen out : List ℕ) (x : Told Log) where
-  pub ended-bad : {f : Fault} → x ≡ ill f → Ended (Numbered.Bad f) seen out x
-  ended-bad e = rw e refl
+  pub ended-bad : {f : Fault} → ill f ≡ x → Ended (Numbered.Bad f) seen out x
+  ended-bad e = rw (← e) refl
 
-  pub ended-ok : {n : ℕ} → x ≡ ok (logOf n seen out) → Ended (Numbered.Ok n) seen out x
-  ended-ok e = rw e refl
+  pub ended-ok : {n : ℕ} → ok (logOf n seen out) ≡ x → Ended (Numbered.Ok n) seen out x
+  ended-ok e = rw (← e) refl
 
 pub told-bad : (seen out : List ℕ) (r : Numbered) (x : Told Log) {f : Fault} → Ended r seen out x → r ≡ Numbered.Bad f → x ≡ ill f
 told-bad seen out (Numbered.Ok n) x h e = absurd (let z : _≡_ {A = ℕ} 0 1 = cc in omega arith)
@@ -42,12 +42,12 @@ unfoldable pub kidsOf : (k used : ℕ) → List ℕ → (up : List ℕ) → (j :
 kidsOf k used s up j pg l = visitKids (visiting (λ m q. bitAt (m .seen) q) noted k used s up) j pg l
 
 module _ (used : ℕ) (s up : List ℕ) (l : Log) (p : ℕ) where
-  pub visit-bad : (k : ℕ) {t : Top} {f : Fault} → t ≡ topOf k used s up (bitAt (l .seen) p) p → t ≡ Top.Bad f → visitOf k used s up l p ≡ ill f
+  pub visit-bad : (k : ℕ) {t : Top} {f : Fault} → t ≡ topOf k used s up (bitAt (l .seen) p) p → t ≡ Top.Bad f → ill f ≡ visitOf k used s up l p
   unfolding visitOf visiting
   visit-bad zero e q = rw (sym e ∙ q)
   visit-bad (suc k) e q = rw (sym e ∙ q)
 
-  pub visit-skip : (k : ℕ) {t : Top} → t ≡ topOf k used s up (bitAt (l .seen) p) p → t ≡ Top.Skip → visitOf k used s up l p ≡ ok l
+  pub visit-skip : (k : ℕ) {t : Top} → t ≡ topOf k used s up (bitAt (l .seen) p) p → t ≡ Top.Skip → ok l ≡ visitOf k used s up l p
   unfolding visitOf visiting
   visit-skip zero e q = rw (sym e ∙ q)
   visit-skip (suc k) e q = rw (sym e ∙ q)
@@ -66,25 +66,26 @@ module _ (used : ℕ) (s up : List ℕ) (l : Log) (p : ℕ) where
 -- ---- the children left
 
 module _ (k used : ℕ) (s up pg : List ℕ) (l : Log) where
-  pub kids-end : (j : ℕ) → j ≤ 0 → kidsOf k used s up j pg l ≡ ok l
+  pub kids-end : (j : ℕ) → j ≤ 0 → ok l ≡ kidsOf k used s up j pg l
   unfolding kidsOf visitKids
   kids-end zero h = refl
   kids-end (suc j) h = absurd (omega arith)
 
-  pub kids-bad : (j : ℕ) {q : ℕ} {f : Fault} → 0 < j → q ≡ childAt pg (j - 1) → visitOf k used s up l q ≡ ill f → kidsOf k used s up j pg l ≡ ill f
-  unfolding kidsOf visitKids visitOf
-  kids-bad zero h c e = absurd (omega arith)
-  kids-bad (suc j) h c e =
-      let z : suc j - 1 ≡ j = omega arith in
-      rw (rw (c, z) at e)
+  module _ {v g : List ℕ} {q : ℕ} (line : v ≡ up) (here : g ≡ pg) where
+    pub kids-bad : (j : ℕ) {f : Fault} → 0 < j → q ≡ childAt g (j - 1) → visitOf k used s v l q ≡ ill f → ill f ≡ kidsOf k used s up j pg l
+    unfolding kidsOf visitKids visitOf
+    kids-bad zero h c e = absurd (omega arith)
+    kids-bad (suc j) h c e =
+        let z : suc j - 1 ≡ j = omega arith in
+        rw (rw (line, c, here, z) at e)
 
-  pub kids-on : (j : ℕ) {q : ℕ} {l₁ : Log} → 0 < j → q ≡ childAt pg (j - 1) → visitOf k used s up l q ≡ ok l₁
-      → kidsOf k used s up (j - 1) pg l₁ ≡ kidsOf k used s up j pg l
-  unfolding kidsOf visitKids visitOf
-  kids-on zero h c e = absurd (omega arith)
-  kids-on (suc j) h c e =
-      let z : suc j - 1 ≡ j = omega arith in
-      rw (rw (c, z) at e, z)
+    pub kids-on : (j : ℕ) {l₁ : Log} → 0 < j → q ≡ childAt g (j - 1) → visitOf k used s v l q ≡ ok l₁
+        → kidsOf k used s up (j - 1) pg l₁ ≡ kidsOf k used s up j pg l
+    unfolding kidsOf visitKids visitOf
+    kids-on zero h c e = absurd (omega arith)
+    kids-on (suc j) h c e =
+        let z : suc j - 1 ≡ j = omega arith in
+        rw (rw (line, c, here, z) at e, z)
 
 -- ---- how many pages are listed
 
@@ -132,6 +133,11 @@ visit-count (suc k) used s up l p =
 pub visit-grows : (k used : ℕ) (s up : List ℕ) (l : Log) (p : ℕ) {l₁ : Log} → visitOf k used s up l p ≡ ok l₁ → l₁ .count ≤ l .count + capOf k
 unfolding visitOf
 visit-grows k used s up l p e = rw e at (visit-count k used s up l p)
+
+pub cap-some : (k : ℕ) → 0 < capOf k
+unfolding capOf
+cap-some zero = omega arith
+cap-some (suc k) = omega arith
 
 -- what j children may still add
 unfoldable pub room : (j k : ℕ) → ℕ
