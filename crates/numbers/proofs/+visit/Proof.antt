@@ -1,6 +1,6 @@
 -- `numbers::visit` meets its contract: the children that are left, from the log as it is now, give what all give; a visit
 -- has fewer levels below it than the one that calls it. Assumes nothing.
-use mathlib.Core.Path.{_≡_, refl, sym, ap, _∙_}
+use mathlib.Core.Path.{_≡_, refl, ap, _∙_}
 use mathlib.Core.List.{[], _∷_, _++_}
 use native.Mathlib.Omega.{arith}
 use lib.ListN.{length}
@@ -142,8 +142,7 @@ visit-loop-again t c =
     let n = four (a .args .line .pages) (a .good .1 .1 .1 .1 .1 .0 .1 .1 .0 .1 .0 .1) in
     let line = line-longer (a .args .line) (c .before .before .before .before .before .before .before .before .longer-line .result) (a .args .p) (omega (arith, a .pre .1 .3)) (c .before .before .before .before .before .before .before .before .longer-line .ensures) in
     let log = told-ok _ _ _ _ (c .before .before .before .before .before .before .before .visit .ensures) (c .before .n .given .1) in
-    let e = room-step (l .j) (a .args .below - 1) (c .before .before .before .before .before .before .before .before .before .before .before .before .before .loop-test .taken) in
-    (
+    let e = room-step (l .j) (a .args .below - 1) (c .before .before .before .before .before .before .before .before .before .before .before .before .before .loop-test .taken) in (
       omega (arith, l .inv .0),
       omega (arith, l .inv .1),
       l .inv .2,
