@@ -17,7 +17,7 @@ use Rattle.numbers.specs.Table.{power, bitAt, withBit}
 
 -- ---- the bits of a number
 
-pub power-pos : (i : ℕ) → 0 < power i
+power-pos : (i : ℕ) → 0 < power i
 power-pos zero = omega arith
 power-pos (suc i) = omega (arith, power-pos i)
 
@@ -30,7 +30,7 @@ halve-added i j b =
     halve j (b + power (suc i)) ∙ rw e
 
 -- a number below 2^k has room for a bit that it does not have
-pub no-carry : (k i b : ℕ) → i < k → b < power k → b / power i % 2 ≡ 0 → b + power i < power k
+no-carry : (k i b : ℕ) → i < k → b < power k → b / power i % 2 ≡ 0 → b + power i < power k
 no-carry zero i b h l e = absurd (omega arith)
 no-carry (suc k) zero b h l e = omega arith
 no-carry (suc k) (suc i) b h l e = omega (arith, no-carry k i (b / 2) (omega arith) (omega arith) (rw (halve i b) at e))
@@ -49,7 +49,7 @@ bit-other (suc i) (suc j) b n e = rw (halve-added i j b, halve j b) (bit-other i
 
 -- ---- the table
 
-pub bit-clear : (seen : List ℕ) (p : ℕ) → bitAt seen p ≡ false → leAt 1 seen (p / 8) / power (p % 8) % 2 ≡ 0
+bit-clear : (seen : List ℕ) (p : ℕ) → bitAt seen p ≡ false → leAt 1 seen (p / 8) / power (p % 8) % 2 ≡ 0
 unfolding bitAt
 bit-clear seen p e =
     let n = eqb-false (leAt 1 seen (p / 8) / power (p % 8) % 2) 1 e in
@@ -59,7 +59,7 @@ bit-at : (seen : List ℕ) (q b : ℕ) → leAt 1 seen (q / 8) ≡ b → bitAt s
 unfolding bitAt
 bit-at seen q b e = rw e
 
-pub bit-fits : (seen : List ℕ) (p : ℕ) → leAt 1 seen (p / 8) < 256 → bitAt seen p ≡ false → leAt 1 seen (p / 8) + power (p % 8) < 256
+bit-fits : (seen : List ℕ) (p : ℕ) → leAt 1 seen (p / 8) < 256 → bitAt seen p ≡ false → leAt 1 seen (p / 8) + power (p % 8) < 256
 bit-fits seen p l e = no-carry 8 (p % 8) (leAt 1 seen (p / 8)) (omega arith) l (bit-clear seen p e)
 
 byte-other : (s : List ℕ) (a b x : ℕ) → (a ≡ b → ⊥) → leAt 1 (putAt 1 s a x) b ≡ leAt 1 s b
@@ -77,7 +77,7 @@ with-clear : (seen : List ℕ) (p : ℕ) → bitAt seen p ≡ false → withBit 
 unfolding withBit
 with-clear seen p e = rw e
 
--- every byte is one
+-- 8192 numbers, each a byte
 abbrev pub Table : List ℕ → Type 0
 Table seen = (length seen ≡ 8192) × ((a : ℕ) → leAt 1 seen a < 256)
 

@@ -48,7 +48,7 @@ unfolding numberRecords
 length-records [] = refl
 length-records (p ∷ l) = rw (length-append, length-record) (omega (arith, length-records l))
 
--- ---- what the log keeps of the list
+-- ---- what the log keeps of the list, from an output out₀ on
 
 record Kept (out₀ listed : List ℕ) (l : Log) : Type 0 where
   bits : (q : ℕ) → q < 65536 → mem q listed ≡ bitAt (l .seen) q

@@ -24,6 +24,7 @@ use Rattle.page.proofs.pool.page_of.Reads as page-of-reads
 use Rattle.numbers.proofs.+visit.{statement}
 use Rattle.numbers.proofs.+visit.Tie.{close}
 
+-- `below`
 abbrev μ-visit : Measures 3 visit-kinds.ps ℕ
 μ-visit κs a = a .1 .1 .1 .1 .0
 
