@@ -5,3 +5,4 @@ pub mod Find
 pub mod Conflict
 pub mod Check
 pub mod Listings
+pub mod Numbers

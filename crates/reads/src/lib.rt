@@ -14,6 +14,7 @@ ghost use Rattle.reads.specs.Conflict.{toldTest, conflictOf, conflictCal
 ghost use Rattle.reads.specs.Check.{checkCall};
 ghost use Rattle.listing.specs.Listed.{written};
 ghost use Rattle.reads.specs.Listings.{listedAt, listRun, toldListed, versionsOfCall, allVersionsCall};
+ghost use Rattle.reads.specs.Numbers.{numbersRun, pageNumbersCall};
 use leaf::find::Best;
 use listing::Listing;
 use mvcc::Current;
@@ -362,4 +363,20 @@ pub fn all_versions(pool: &[u8], st: State, out: &mut [u8]) -> Listed
     ensures { λ r. ⌜ written (ofListed r) (now (out .exit)) ≡ allVersionsCall (now (pool .entry)) st (now (out .entry)) ⌝ }
 {
     listed_of(list_at(pool, st, Which::All, out))
+}
+
+// The page numbers, with the fault behind a BadTree.
+pub fn numbers_at(pool: &[u8], st: State, out: &mut [u8]) -> ListedAt
+    ensures { λ r. ⌜ written r (now (out .exit)) ≡ numbersRun (now (pool .entry)) st (now (out .entry)) ⌝ }
+{
+    if page::pool::pool_is_good(pool, st) {
+        return listed_at(numbers::list_numbers(pool, out, st.used, st.root));
+    }
+    ListedAt::Refused(plain_refusal(1))
+}
+
+pub fn page_numbers(pool: &[u8], st: State, out: &mut [u8]) -> Listed
+    ensures { λ r. ⌜ written (ofListed r) (now (out .exit)) ≡ pageNumbersCall (now (pool .entry)) st (now (out .entry)) ⌝ }
+{
+    listed_of(numbers_at(pool, st, out))
 }
