@@ -1,5 +1,6 @@
 -- What a reader of the contracts of `reads` has to believe.
 pub mod Answer
+pub mod AnswerFacts
 pub mod Create
 pub mod Find
 pub mod Conflict
