@@ -4,3 +4,4 @@ pub mod Create
 pub mod Find
 pub mod Conflict
 pub mod Listings
+pub mod Scan
