@@ -1,0 +1,6 @@
+pub mod Beside
+pub mod Choosing
+pub mod Standing
+pub mod Measuring
+pub mod Pushing
+pub mod Listing
