@@ -4,3 +4,5 @@ pub mod Standing
 pub mod Measuring
 pub mod Pushing
 pub mod Listing
+pub mod Ranging
+pub mod Slowness
