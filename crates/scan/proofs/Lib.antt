@@ -1,5 +1,7 @@
 pub mod Waiting
 pub mod Stepping
+pub mod Writing
+pub mod Passing
 pub mod Beside
 pub mod Choosing
 pub mod Standing

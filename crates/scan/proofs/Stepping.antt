@@ -1,25 +1,29 @@
 -- A visible cell waits, or pushes on what waits: one law for each way out, and how far the length grows. Assumes nothing.
 use mathlib.Core.Path.{_≡_, refl, sym, ap, _∙_}
 use mathlib.Core.Bool.{Bool, true, false}
-use mathlib.Core.List.{List, [], _∷_}
-use Prim.Native.Nat.{ℕ, zero, suc, _+_, _*_, _-_, _≤_, _<_}
+use mathlib.Core.List.{List}
+use Prim.Native.Nat.{ℕ, _+_, _*_, _-_, _≤_, _<_}
 use native.Mathlib.Omega.{arith}
 use borrow.Author.Tests.{lt-ltb, le-ltb, eq-eqb, ne-eqb}
 use lib.Dec.{ltb, eqb}
 use lib.ListN.{length}
 use Rattle.store.specs.Pick.{pick}
-use Rattle.row.specs.Read.{cellAt}
+use Rattle.page.specs.Page.{page}
 use Rattle.row.specs.declared.Cell.{Cell}
-use Rattle.row.specs.declared.read.CellRead.{CellRead}
+use Rattle.row.specs.declared.Fault.{Fault}
 use Rattle.row.proofs.Exact.{cell-placed}
 use Rattle.mvcc.specs.Rules.{visible}
 use Rattle.mvcc.specs.declared.Current.{Current}
-use Rattle.leaf.specs.Cells.{onCell, cellsOf, foldCells, stepOf}
+use Rattle.leaf.specs.Cells.{stepOf}
 use Rattle.leaf.specs.declared.Step.{Step}
 use Rattle.leaf.proofs.Walking.{step-cell}
 use Rattle.leaf.specs.declared.find.Best.{Best}
-use Rattle.scan.specs.Fast.{spanOf, stepFrom, scanned, waitSize, fullSize, Whole}
+use Rattle.tree.specs.Chain.{go, broken}
+use Rattle.scan.specs.Fast.{spanOf, choose, stepFrom, scanned, scanLeaf, seenScan, waitSize, fullSize, Whole}
 use Rattle.scan.specs.declared.Scan.{Scan}
+use Rattle.scan.specs.declared.LeafScan.{LeafScan}
+use Rattle.scan.proofs.Standing.{waits-whole}
+use Rattle.scan.proofs.Measuring.{Measured, leaf-measured}
 
 -- ---- the ways out
 
@@ -77,52 +81,45 @@ pub record Grown (old new : Scan) : Type 0 where
   pub whole : Whole (new .best)
   pub more : new .size ≤ old .size + 4102
 
+-- what waits afterwards: what waited, or the cell
+pub step-best : (p : ℕ) (sc : Scan) (x : Cell) (P : Best → Type 0) (best : Best) → P (sc .best) → P (Best.At p x) → P (stepFrom best p sc x .best)
+step-best p sc x P Best.Nothing old new = new
+step-best p sc x P (Best.At q o) old new = by-tests (ltb (x .key) (o .key)) (eqb (x .key) (o .key)) (ltb (o .version .creator) (x .version .creator))
+  where
+    by-tests : (a b d : Bool)
+        → P
+        (pick a (record { best = sc .best; size = sc .size; falls = true })
+        (pick b (pick d (choose sc p x) sc)
+        (record { best = Best.At p x; size = sc .size + (6 + spanOf o); falls = sc .falls }))
+        .best)
+    by-tests true b d = old
+    by-tests false true true = new
+    by-tests false true false = old
+    by-tests false false d = new
+
 module _ (p : ℕ) (sc : Scan) (x : Cell) (low : x .at ≤ x .next) (high : x .next ≤ 4096) where
-  grown-from : (best : Best) → Whole best → Whole (sc .best) → Grown sc (stepFrom best p sc x)
-  grown-from Best.Nothing w v = record { whole = (low, high); more = omega arith }
-  grown-from (Best.At q o) w v = by-tests (ltb (x .key) (o .key)) (eqb (x .key) (o .key)) (ltb (o .version .creator) (x .version .creator))
+  step-more : (best : Best) → Whole best → stepFrom best p sc x .size ≤ sc .size + 4102
+  step-more Best.Nothing w = omega arith
+  step-more (Best.At q o) w = by-tests (ltb (x .key) (o .key)) (eqb (x .key) (o .key)) (ltb (o .version .creator) (x .version .creator))
     where
       by-tests : (a b d : Bool)
-          → Grown sc
-          (pick a (record { best = sc .best; size = sc .size; falls = true })
-          (pick b (pick d (record { best = Best.At p x; size = sc .size; falls = sc .falls }) sc)
-          (record { best = Best.At p x; size = sc .size + (6 + spanOf o); falls = sc .falls })))
-      by-tests true b d = record { whole = v; more = omega arith }
-      by-tests false true true = record { whole = (low, high); more = omega arith }
-      by-tests false true false = record { whole = v; more = omega arith }
-      by-tests false false d = let n = span-few (Best.At q o) refl w refl in record { whole = (low, high); more = omega (arith, n) }
+          → pick a (record { best = sc .best; size = sc .size; falls = true })
+          (pick b (pick d (choose sc p x) sc)
+          (record { best = Best.At p x; size = sc .size + (6 + spanOf o); falls = sc .falls }))
+          .size
+          ≤ sc .size + 4102
+      by-tests true b d = omega arith
+      by-tests false true true = omega arith
+      by-tests false true false = omega arith
+      by-tests false false d = let n = span-few (Best.At q o) refl w refl in omega (arith, n)
 
   pub scanned-grown : (st : ℕ → ℕ) (active : List ℕ) (xmax : ℕ) (cur : Current) {r : Scan} → Whole (sc .best) → r ≡ scanned st active xmax cur p sc x → Grown sc r
   unfolding scanned
   scanned-grown st active xmax cur {r} w e = rw e (by-seen (visible st active xmax cur (x .version .creator) (x .version .stamp)))
     where
       by-seen : (b : Bool) → Grown sc (pick b (stepFrom (sc .best) p sc x) sc)
-      by-seen true = grown-from (sc .best) w w
+      by-seen true = record { whole = step-best p sc x Whole (sc .best) w (low, high); more = step-more (sc .best) w }
       by-seen false = record { whole = w; more = omega arith }
-
--- the cells of a page from `at` on; each takes at least one of its bytes
-pub record Folded (old new : Scan) (at : ℕ) : Type 0 where
-  pub whole : Whole (new .best)
-  pub more : new .size + at * 4102 ≤ old .size + 16801792
-
-module _ (st : ℕ → ℕ) (active : List ℕ) (xmax : ℕ) (cur : Current) (p : ℕ) (pg : List ℕ) (l : length pg ≡ 4096) where
-  pub fold-grown : (n at : ℕ) (sc : Scan) → at ≤ 4096 → Whole (sc .best) → Folded sc (foldCells (scanned st active xmax cur p) sc (cellsOf n at pg)) at
-  unfolding cellsOf foldCells
-  fold-grown zero at sc h w = record { whole = w; more = omega arith }
-  fold-grown (suc n) at sc h w = by-cell (cellAt pg at) refl (λ m a b d. fold-grown n m a b d)
-    where
-      by-cell : (r : CellRead) → cellAt pg at ≡ r
-          → ((m : ℕ) (a : Scan) → m ≤ 4096 → Whole (a .best) → Folded a (foldCells (scanned st active xmax cur p) a (cellsOf n m pg)) m)
-          → Folded sc (foldCells (scanned st active xmax cur p) sc (onCell (λ x. x ∷ cellsOf n (x .next) pg) (λ kind. []) r)) at
-      by-cell (CellRead.Bad kind) e ih = record { whole = w; more = omega arith }
-      by-cell (CellRead.Got x) e ih =
-          let c = cell-placed pg at x e in
-          let high : x .next ≤ 4096 = omega (arith, c .inside) in
-          let past : at + 19 ≤ x .next = omega (arith, c .past-head, c .whole) in
-          let low : x .at ≤ x .next = omega (arith, c .here) in
-          let g = scanned-grown p sc x low high st active xmax cur w refl in
-          let t = ih (x .next) (scanned st active xmax cur p sc x) high (g .whole) in
-          record { whole = t .whole; more = omega (arith, t .more, g .more) }
 
 -- the same at the step of a loop over the leaf
 pub cell-grown : (pg : List ℕ) (p k c at : ℕ) (st : ℕ → ℕ) (active : List ℕ) (xmax : ℕ) (cur : Current) (q : ℕ) (sc : Scan) (x : Cell) {t : Step} {r : Scan} → length pg ≡ 4096
@@ -133,3 +130,22 @@ cell-grown pg p k c at st active xmax cur q sc x l e g w u =
     let past : at + 1 ≤ x .next = omega (arith, d .past-head, d .whole) in
     let low : x .at ≤ x .next = omega (arith, d .here) in
     (scanned-grown q sc x low high st active xmax cur w u, high, past)
+
+-- ---- what a leaf's answer says of the walk
+
+module _ {r x : LeafScan} (said : r ≡ x) where
+  pub scan-broken : {f : Fault} → r ≡ LeafScan.Bad f → seenScan x ≡ broken f
+  scan-broken e = ap seenScan (sym said ∙ e)
+
+  pub scan-go : {sc : Scan} → r ≡ LeafScan.Ok sc → seenScan x ≡ go sc
+  scan-go e = ap seenScan (sym said ∙ e)
+
+-- m pages were left before the leaf
+pub leaf-on : (st : ℕ → ℕ) (active : List ℕ) (xmax : ℕ) (cur : Current) (s : List ℕ) (used p m : ℕ) (sc : Scan) {pg : List ℕ} {r : LeafScan} {d : Scan} → 0 < m → m ≤ used
+    → p < used → pg ≡ page p s → r ≡ scanLeaf st active xmax cur p sc pg → r ≡ LeafScan.Ok d → Measured used s ((used - m) * 256) sc → Measured used s ((used - (m - 1)) * 256) d
+leaf-on st active xmax cur s used p m sc {pg} {r} {d} z l h here e q k =
+    let n : (used - m) * 256 + 256 ≡ (used - (m - 1)) * 256 = omega arith in
+    rw n at (leaf-measured st active xmax cur s used p ((used - m) * 256) sc h (rw here at e) q k)
+
+pub measured-whole : (used : ℕ) (s : List ℕ) (n : ℕ) (sc : Scan) → Measured used s n sc → Whole (sc .best)
+measured-whole used s n sc k = waits-whole used (sc .best) s (k .waits)
