@@ -9,3 +9,4 @@ pub mod Listing
 pub mod Ranging
 pub mod Slowness
 pub mod Lessening
+pub mod Slowing
