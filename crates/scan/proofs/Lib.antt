@@ -10,3 +10,5 @@ pub mod Pushing
 pub mod Listing
 pub mod Ranging
 pub mod Slowness
+pub mod Lessening
+pub mod Slowing
