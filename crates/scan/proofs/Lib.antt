@@ -2,6 +2,7 @@ pub mod Waiting
 pub mod Stepping
 pub mod Writing
 pub mod Passing
+pub mod Ending
 pub mod Beside
 pub mod Choosing
 pub mod Standing
