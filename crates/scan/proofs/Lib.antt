@@ -13,3 +13,4 @@ pub mod Ranging
 pub mod Slowness
 pub mod Lessening
 pub mod Slowing
+pub mod Fitting
