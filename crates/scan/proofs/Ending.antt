@@ -1,11 +1,10 @@
 -- How the visible listing ends, one law for each way out: both ways write the rows of the chain, or tell its fault. Assumes
 -- nothing.
 use mathlib.Core.Path.{_≡_, refl, sym, ap, _∙_}
-use mathlib.Core.Bool.{Bool, true, false}
+use mathlib.Core.Bool.{false}
 use mathlib.Core.List.{List}
-use Prim.Native.Nat.{ℕ, _+_, _*_, _≤_, _<_}
+use Prim.Native.Nat.{ℕ, _*_, _≤_, _<_}
 use native.Mathlib.Omega.{arith}
-use borrow.Author.Tests.{lt-leb, le-leb}
 use lib.ListN.{length}
 use Rattle.store.specs.Le.{AreBytes}
 use Rattle.store.specs.Part.{put}
@@ -28,15 +27,7 @@ use Rattle.scan.specs.declared.ChainScan.{ChainScan}
 use Rattle.scan.proofs.Measuring.{scan-small, scan-whole}
 use Rattle.scan.proofs.Listing.{fast-lists, faults-agree}
 use Rattle.scan.proofs.Slowness.{slow-lists}
-
-module _ (x out : List ℕ) where
-  pub fits-short : length out < length x → written Listing.Short out ≡ fitted x out
-  unfolding fitted
-  fits-short h = rw (lt-leb (length x) (length out) h)
-
-  pub fits-done : {n : ℕ} {t : List ℕ} → n ≡ length x → length x ≤ length out → t ≡ put 0 x out → written (Listing.Done n) t ≡ fitted x out
-  unfolding fitted
-  fits-done e h u = rw (le-leb (length x) (length out) h, e, u)
+use Rattle.scan.proofs.Fitting.{fitted-short, fitted-done}
 
 -- what the first pass measured
 pub list-measured : (st : ℕ → ℕ) (active : List ℕ) (xmax : ℕ) (cur : Current) (used first : ℕ) (s : List ℕ) {r : ChainScan} {sc : Scan} → r ≡ scanAlong st active xmax cur used first s
@@ -90,7 +81,7 @@ module _ (st : ℕ → ℕ) (active : List ℕ) (xmax : ℕ) (cur : Current) (us
       rows-long = length-is ∙ ap length bytes-are
 
       pub list-short : length out < n → written Listing.Short out ≡ listedVisible st active xmax cur out (chainRows used first s)
-      list-short h = fits-short (records (scanRows st active xmax cur (judged .rows))) out (omega (arith, rows-long)) ∙ sym lists
+      list-short h = fitted-short (records (scanRows st active xmax cur (judged .rows))) out rows-long h ∙ sym lists
 
       pub list-fits : n ≤ length out → length out ≤ 9223372036854775807 → Fits (passAlong st active xmax cur used first s) s out
       list-fits h l = record { pass = judged .fast .end; judged = judged .fast .pass; room = omega (arith, length-is); few = omega (arith, length-is) }
@@ -98,7 +89,7 @@ module _ (st : ℕ → ℕ) (active : List ℕ) (xmax : ℕ) (cur : Current) (us
       pub list-done : {t : List ℕ} → n ≤ length out → t ≡ put 0 (passBytes s (passAlong st active xmax cur used first s)) out
           → written (Listing.Done n) t ≡ listedVisible st active xmax cur out (chainRows used first s)
       list-done h u =
-          fits-done (records (scanRows st active xmax cur (judged .rows))) out rows-long (omega (arith, rows-long)) (u ∙ ap (λ (x : List ℕ). put 0 x out) bytes-are) ∙ sym lists
+          fitted-done (records (scanRows st active xmax cur (judged .rows))) out rows-long h (u ∙ ap (λ (x : List ℕ). put 0 x out) bytes-are) ∙ sym lists
 
 -- ---- from the root
 
