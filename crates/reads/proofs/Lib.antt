@@ -1,3 +1,4 @@
 -- Laws of the reading calls.
 pub mod Calls
 pub mod ListCalls
+pub mod ScanCalls
