@@ -1,7 +1,6 @@
--- `reads::conflict_at` meets its contract. Assumes nothing.
+-- `reads::conflict_at` meets its contract: each way out is one law of Calls. Assumes nothing.
 use Rattle.reads.proofs.Calls.{none-judged, conflict-bad, conflict-leaf}
 use native.Mathlib.Omega.{arith}
--- `reads::conflict_at` meets its contract: each way out is one law of Calls. Assumes nothing.
 use borrow.Author.Needs.{needs}
 use Rattle.reads.proofs.conflict_at.Statement.{statement}
 use Rattle.reads.proofs.conflict_at.Tie as tie

@@ -1,9 +1,8 @@
--- `reads::find_visible` meets its contract. Assumes nothing.
+-- `reads::find_visible` meets its contract: each way out is one law of Calls. Assumes nothing.
 use Rattle.reads.proofs.Calls.{run-small, call-found, call-refused}
 use Rattle.page.specs.Key.{rankOf}
 use mir.Facts.{toZ-ofZ}
 use mathlib.Core.Path.{ap, _∙_}
--- `reads::find_visible` meets its contract: each way out is one law of Calls. Assumes nothing.
 use borrow.Author.Needs.{needs}
 use Rattle.reads.proofs.find_visible.Statement.{statement}
 use Rattle.reads.proofs.find_visible.Tie as tie

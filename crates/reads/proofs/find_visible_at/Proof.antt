@@ -1,9 +1,8 @@
--- `reads::find_visible_at` meets its contract. Assumes nothing.
+-- `reads::find_visible_at` meets its contract: each way out is one law of Calls. Assumes nothing.
 use Rattle.reads.proofs.Calls.{run-pool, run-active, run-statuses, run-look}
 use Rattle.mvcc.proofs.Laws.{good-active-rises, good-statuses-judged}
 use Rattle.page.proofs.PoolLaws.{pool-is}
 use mathlib.Core.Path.{sym, _∙_}
--- `reads::find_visible_at` meets its contract: each way out is one law of Calls. Assumes nothing.
 use borrow.Author.Needs.{needs}
 use Rattle.reads.proofs.find_visible_at.Statement.{statement}
 use Rattle.reads.proofs.find_visible_at.Tie as tie

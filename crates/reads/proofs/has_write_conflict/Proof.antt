@@ -1,11 +1,10 @@
--- `reads::has_write_conflict` meets its contract. Assumes nothing.
+-- `reads::has_write_conflict` meets its contract: each way out is one law of Calls. Assumes nothing.
 use Rattle.reads.proofs.Calls.{conflict-pool, conflict-active, conflict-test}
 use Rattle.mvcc.proofs.Laws.{good-active-rises}
 use Rattle.page.proofs.PoolLaws.{pool-is}
 use Rattle.page.specs.Key.{rankOf}
 use mir.Facts.{toZ-ofZ}
 use mathlib.Core.Path.{ap, sym, _∙_}
--- `reads::has_write_conflict` meets its contract: each way out is one law of Calls. Assumes nothing.
 use borrow.Author.Needs.{needs}
 use Rattle.reads.proofs.has_write_conflict.Statement.{statement}
 use Rattle.reads.proofs.has_write_conflict.Tie as tie

@@ -1,6 +1,5 @@
--- `reads::look` meets its contract. Assumes nothing.
-use Rattle.reads.proofs.Calls.{look-bad, look-leaf}
 -- `reads::look` meets its contract: each way out is one law of Calls. Assumes nothing.
+use Rattle.reads.proofs.Calls.{look-bad, look-leaf}
 use borrow.Author.Needs.{needs}
 use Rattle.reads.proofs.look.Statement.{statement}
 use Rattle.reads.proofs.look.Tie as tie

@@ -1,8 +1,7 @@
--- `reads::make_root` meets its contract. Assumes nothing.
+-- `reads::make_root` meets its contract: each way out is one law of Calls. Assumes nothing.
 use Rattle.reads.proofs.Calls.{root-state, root-done}
 use Rattle.page.proofs.PoolLaws.{alloc-page}
 use native.Mathlib.Omega.{arith}
--- `reads::make_root` meets its contract: each way out is one law of Calls. Assumes nothing.
 use borrow.Author.Needs.{needs}
 use Rattle.reads.proofs.make_root.Statement.{statement}
 use Rattle.reads.proofs.make_root.Tie as tie
