@@ -1,7 +1,9 @@
-// The text of a case: the fields of a line, with one space between two, and numbers and byte strings in hexadecimal.
-// A field that is not there is empty, and no number or byte string is.
+// The text of a recorded list: the fields of a line, with one space between two, and numbers and byte strings in
+// hexadecimal. A field that is not there is empty, and no number or byte string is. Module fields reads a version's.
+pub mod fields;
+
 ghost use lib.ListN.{length};
-ghost use Rattle.cases.specs.Within.{Within};
+ghost use Rattle.text.specs.Within.{Within};
 
 pub enum NumberText {
     Got(u64),

@@ -1,12 +1,12 @@
--- `cases::text::number` stays within its bound and ends. No sum wraps: each turn tests the digit and what came before.
+-- `text::number` stays within its bound and ends. No sum wraps: each turn tests the digit and what came before.
 use Prim.Native.Nat.{_≤_, _-_}
 use lib.ListN.{length}
 use borrow.Author.Needs.{needs}
-use Rattle.cases.proofs.text.number.Statement.{statement}
-use Rattle.cases.proofs.text.number.Tie as tie
-use Rattle.cases.proofs.text.number.Reads as reads
-use Rattle.cases.proofs.text.number.Lts as lts
-use Rattle.cases.proofs.text.digit.Reads as digit-reads
+use Rattle.text.proofs.number.Statement.{statement}
+use Rattle.text.proofs.number.Tie as tie
+use Rattle.text.proofs.number.Reads as reads
+use Rattle.text.proofs.number.Lts as lts
+use Rattle.text.proofs.digit.Reads as digit-reads
 
 abbrev Inv-loop : tie.InvT-loop
 Inv-loop s max most x₀ i₀ x i = i ≤ length s

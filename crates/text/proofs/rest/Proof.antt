@@ -1,11 +1,11 @@
--- `cases::text::rest` is safe and ends: each turn leaves one field less, and starts inside the line.
+-- `text::rest` is safe and ends: each turn leaves one field less, and starts inside the line.
 use Prim.Native.Nat.{_≤_}
 use lib.ListN.{length}
 use borrow.Author.Needs.{needs}
-use Rattle.cases.proofs.text.rest.Statement.{statement}
-use Rattle.cases.proofs.text.rest.Tie as tie
-use Rattle.cases.proofs.text.rest.Reads as reads
-use Rattle.cases.proofs.text.rest.Lts as lts
+use Rattle.text.proofs.rest.Statement.{statement}
+use Rattle.text.proofs.rest.Tie as tie
+use Rattle.text.proofs.rest.Reads as reads
+use Rattle.text.proofs.rest.Lts as lts
 use Rattle.bytes.proofs.scan.find.Reads as find-reads
 
 abbrev Inv-loop : tie.InvT-loop

@@ -1,16 +1,16 @@
--- `cases::text::bytes` answers a count within the buffer and ends. A byte is stored for each two digits.
+-- `text::bytes` answers a count within the buffer and ends. A byte is stored for each two digits.
 use mathlib.Core.Path.{_≡_}
 use Prim.Native.Nat.{_-_, _≤_}
 use lib.ListN.{length}
 use native.Mathlib.Omega.{arith}
-use Rattle.cases.proofs.Laws.{within-got}
+use Rattle.text.proofs.Laws.{within-got}
 use borrow.Author.Needs.{needs}
-use Rattle.cases.proofs.text.bytes.Statement.{statement}
-use Rattle.cases.proofs.text.bytes.Tie as tie
-use Rattle.cases.proofs.text.bytes.Reads as reads
-use Rattle.cases.proofs.text.bytes.Lts as lts
-use Rattle.cases.proofs.text.is_dash.Reads as is-dash-reads
-use Rattle.cases.proofs.text.number.Reads as number-reads
+use Rattle.text.proofs.bytes.Statement.{statement}
+use Rattle.text.proofs.bytes.Tie as tie
+use Rattle.text.proofs.bytes.Reads as reads
+use Rattle.text.proofs.bytes.Lts as lts
+use Rattle.text.proofs.is_dash.Reads as is-dash-reads
+use Rattle.text.proofs.number.Reads as number-reads
 
 abbrev Inv-loop : tie.InvT-loop
 Inv-loop s out₀ n i₀ out i = (i ≤ n) × (length out ≡ length out₀)

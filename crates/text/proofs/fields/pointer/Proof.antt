@@ -1,14 +1,14 @@
--- `cases::fields::pointer` is safe: page and slot fit 32 and 16 bits.
+-- `text::fields::pointer` is safe: page and slot fit 32 and 16 bits.
 use native.Mathlib.Omega.{arith}
-use Rattle.cases.proofs.Laws.{within-got}
+use Rattle.text.proofs.Laws.{within-got}
 use borrow.Author.Needs.{needs}
-use Rattle.cases.proofs.fields.pointer.Statement.{statement}
-use Rattle.cases.proofs.fields.pointer.Tie as tie
-use Rattle.cases.proofs.fields.pointer.Reads as reads
-use Rattle.cases.proofs.fields.pointer.Lts as lts
+use Rattle.text.proofs.fields.pointer.Statement.{statement}
+use Rattle.text.proofs.fields.pointer.Tie as tie
+use Rattle.text.proofs.fields.pointer.Reads as reads
+use Rattle.text.proofs.fields.pointer.Lts as lts
 use Rattle.bytes.proofs.scan.find.Reads as find-reads
-use Rattle.cases.proofs.text.is_dash.Reads as is-dash-reads
-use Rattle.cases.proofs.text.number.Reads as number-reads
+use Rattle.text.proofs.is_dash.Reads as is-dash-reads
+use Rattle.text.proofs.number.Reads as number-reads
 
 is-dash-requires : tie.Need-is-dash-requires
 is-dash-requires c κs = search needs

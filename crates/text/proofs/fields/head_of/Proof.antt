@@ -1,15 +1,15 @@
--- `cases::fields::head_of` is safe: the bits of a key fit 32 bits.
+-- `text::fields::head_of` is safe: the bits of a key fit 32 bits.
 use native.Mathlib.Omega.{arith}
-use Rattle.cases.proofs.Laws.{within-got}
+use Rattle.text.proofs.Laws.{within-got}
 use borrow.Author.Needs.{needs}
-use Rattle.cases.proofs.fields.head_of.Statement.{statement}
-use Rattle.cases.proofs.fields.head_of.Tie as tie
-use Rattle.cases.proofs.fields.head_of.Reads as reads
-use Rattle.cases.proofs.fields.head_of.Lts as lts
-use Rattle.cases.proofs.fields.pointer.Reads as pointer-reads
-use Rattle.cases.proofs.fields.stamp.Reads as stamp-reads
-use Rattle.cases.proofs.text.field.Reads as field-reads
-use Rattle.cases.proofs.text.field_number.Reads as field-number-reads
+use Rattle.text.proofs.fields.head_of.Statement.{statement}
+use Rattle.text.proofs.fields.head_of.Tie as tie
+use Rattle.text.proofs.fields.head_of.Reads as reads
+use Rattle.text.proofs.fields.head_of.Lts as lts
+use Rattle.text.proofs.fields.pointer.Reads as pointer-reads
+use Rattle.text.proofs.fields.stamp.Reads as stamp-reads
+use Rattle.text.proofs.field.Reads as field-reads
+use Rattle.text.proofs.field_number.Reads as field-number-reads
 use Rattle.page.proofs.key.flip32.Reads as flip32-reads
 
 field-number-requires : tie.Need-field-number-requires
