@@ -86,7 +86,7 @@ module _ {pg : List ℕ} (e : Empty pg) where
 
 -- ---- the tree
 
--- no record fits any output, and leaves it
+-- a listing of no rows: 0 bytes, and the output as it was
 none-fitted : (out : List ℕ) → fitted (records []) out ≡ written (Listing.Done 0) out
 unfolding fitted records
 none-fitted out = rw (le-leb 0 (length out) (omega arith), put-nil 0 out)
