@@ -1,0 +1,2 @@
+-- What a reader of the contracts of `port` has to believe.
+pub mod Words

@@ -1,0 +1,287 @@
+// What the booking server calls in-process (document 01, sections 6 and 9): numbers and slices in, the answer's number
+// back, what Done gives as words at the start of a lent array, a listing in a lent output. Each call is the one of `reads`
+// that it names.
+ghost use mathlib.Core.Path.{_≡_};
+ghost use lib.ListN.{length};
+ghost use Rattle.store.specs.Part.{put};
+ghost use Rattle.page.specs.Key.{rankOf};
+ghost use Rattle.reads.specs.Answer.{ofCreated, ofFound, ofTold, ofListed};
+ghost use Rattle.reads.specs.Check.{checkCall};
+ghost use Rattle.reads.specs.Conflict.{conflictCall};
+ghost use Rattle.reads.specs.Create.{createCall, createAfter};
+ghost use Rattle.reads.specs.Find.{findVisibleCall, findCall};
+ghost use Rattle.reads.specs.Listings.{versionsOfCall, allVersionsCall};
+ghost use Rattle.reads.specs.Numbers.{pageNumbersCall};
+ghost use Rattle.reads.specs.Scan.{scanVisibleCall};
+ghost use Rattle.port.specs.Words.{stateOf, currentOf, stampWords, pointerWords, versionWords, stateWords, flagWords, countWords, called, given, calledList, givenList};
+use mvcc::Current;
+use page::pool::State;
+use reads::Created;
+use reads::Found;
+use reads::Listed;
+use reads::Told;
+use row::Pointer;
+use row::Stamp;
+use row::Version;
+
+fn current_of(has: bool, tx: u64) -> Current
+    ensures { λ r. ⌜ r ≡ currentOf has tx ⌝ }
+{
+    if has {
+        return Current::Tx(tx);
+    }
+    Current::Nobody
+}
+
+fn give_stamp(answer: &mut [u64], s: Stamp)
+    requires { ⌜ length (now answer) ≡ 8 ⌝ }
+    ensures { λ _. ⌜ now (answer .exit) ≡ put 1 (stampWords s) (now (answer .entry)) ⌝ }
+{
+    match s {
+        Stamp::Absent => {
+            answer[1] = 0;
+            answer[2] = 0;
+        }
+        Stamp::By(tx) => {
+            answer[1] = 1;
+            answer[2] = tx;
+        }
+    }
+}
+
+fn give_pointer(answer: &mut [u64], p: Pointer)
+    requires { ⌜ length (now answer) ≡ 8 ⌝ }
+    ensures { λ _. ⌜ now (answer .exit) ≡ put 3 (pointerWords p) (now (answer .entry)) ⌝ }
+{
+    match p {
+        Pointer::Absent => {
+            answer[3] = 0;
+            answer[4] = 0;
+            answer[5] = 0;
+        }
+        Pointer::At { page, slot } => {
+            answer[3] = 1;
+            answer[4] = page as u64;
+            answer[5] = slot as u64;
+        }
+    }
+}
+
+fn give_version(answer: &mut [u64], v: Version)
+    requires { ⌜ length (now answer) ≡ 8 ⌝ }
+    ensures { λ _. ⌜ now (answer .exit) ≡ put 0 (versionWords v) (now (answer .entry)) ⌝ }
+{
+    let stamp = v.stamp;
+    let pointer = v.pointer;
+    answer[0] = v.creator;
+    give_stamp(answer, stamp);
+    give_pointer(answer, pointer);
+    answer[6] = v.start as u64;
+    answer[7] = v.len as u64;
+}
+
+fn give_found(answer: &mut [u64], r: Found) -> u8
+    requires { ⌜ length (now answer) ≡ 8 ⌝ }
+    ensures { λ n. ⌜ called n (now (answer .exit)) ≡ given versionWords (ofFound r) (now (answer .entry)) ⌝ }
+{
+    match r {
+        Found::Refused(n) => n,
+        Found::Done(v) => {
+            give_version(answer, v);
+            0
+        }
+    }
+}
+
+fn give_told(answer: &mut [u64], r: Told) -> u8
+    requires { ⌜ length (now answer) ≡ 8 ⌝ }
+    ensures { λ n. ⌜ called n (now (answer .exit)) ≡ given flagWords (ofTold r) (now (answer .entry)) ⌝ }
+{
+    match r {
+        Told::Refused(n) => n,
+        Told::Done(yes) => {
+            answer[0] = if yes { 1 } else { 0 };
+            0
+        }
+    }
+}
+
+fn give_created(answer: &mut [u64], r: Created) -> u8
+    requires { ⌜ length (now answer) ≡ 8 ⌝ }
+    ensures { λ n. ⌜ called n (now (answer .exit)) ≡ given stateWords (ofCreated r) (now (answer .entry)) ⌝ }
+{
+    match r {
+        Created::Refused(n) => n,
+        Created::Done(st) => {
+            answer[0] = st.root as u64;
+            answer[1] = st.used as u64;
+            0
+        }
+    }
+}
+
+fn give_listed(answer: &mut [u64], r: Listed) -> u8
+    requires { ⌜ length (now answer) ≡ 8 ⌝ }
+    ensures { λ n. ⌜ called n (now (answer .exit)) ≡ given countWords (ofListed r) (now (answer .entry)) ⌝ }
+{
+    match r {
+        Listed::Refused(n) => n,
+        Listed::Done(len) => {
+            answer[0] = len as u64;
+            0
+        }
+    }
+}
+
+#[no_mangle]
+pub extern "C" fn erbulonge_create(
+    pool: &mut [u8],
+    root: u32,
+    used: u32,
+    answer: &mut [u64; 8],
+) -> u8
+    ensures { λ n. ⌜ called n (now (answer .exit)) ≡ given stateWords (createCall (now (pool .entry)) (stateOf root used)) (now (answer .entry)) ⌝ }
+    ensures { λ _. ⌜ now (pool .exit) ≡ createAfter (now (pool .entry)) (stateOf root used) ⌝ }
+{
+    give_created(answer, reads::create(pool, State { root, used }))
+}
+
+#[no_mangle]
+pub extern "C" fn erbulonge_check(pool: &[u8], root: u32, used: u32, answer: &mut [u64; 8]) -> u8
+    ensures { λ n. ⌜ called n (now (answer .exit)) ≡ given flagWords (checkCall (now (pool .entry)) (stateOf root used)) (now (answer .entry)) ⌝ }
+{
+    give_told(answer, reads::check(pool, State { root, used }))
+}
+
+#[no_mangle]
+pub extern "C" fn erbulonge_find_visible(
+    pool: &[u8],
+    root: u32,
+    used: u32,
+    key: i32,
+    xmax: u64,
+    active: &[u64],
+    has_current: bool,
+    current: u64,
+    ids: &[u64],
+    states: &[u8],
+    answer: &mut [u64; 8],
+) -> u8
+    ensures { λ n. ⌜ called n (now (answer .exit)) ≡ given versionWords (findVisibleCall (now (pool .entry)) (stateOf root used) (rankOf key) xmax (now (active .entry)) (currentOf «has_current» current) (now (ids .entry)) (now (states .entry))) (now (answer .entry)) ⌝ }
+{
+    let st = State { root, used };
+    let cur = current_of(has_current, current);
+    give_found(
+        answer,
+        reads::find_visible(pool, st, key, xmax, active, cur, ids, states),
+    )
+}
+
+#[no_mangle]
+pub extern "C" fn erbulonge_find(
+    pool: &[u8],
+    root: u32,
+    used: u32,
+    key: i32,
+    has_current: bool,
+    current: u64,
+    ids: &[u64],
+    states: &[u8],
+    answer: &mut [u64; 8],
+) -> u8
+    ensures { λ n. ⌜ called n (now (answer .exit)) ≡ given versionWords (findCall (now (pool .entry)) (stateOf root used) (rankOf key) (currentOf «has_current» current) (now (ids .entry)) (now (states .entry))) (now (answer .entry)) ⌝ }
+{
+    let st = State { root, used };
+    let cur = current_of(has_current, current);
+    give_found(answer, reads::find(pool, st, key, cur, ids, states))
+}
+
+#[no_mangle]
+pub extern "C" fn erbulonge_has_write_conflict(
+    pool: &[u8],
+    root: u32,
+    used: u32,
+    key: i32,
+    seen: u64,
+    xmax: u64,
+    active: &[u64],
+    has_current: bool,
+    current: u64,
+    answer: &mut [u64; 8],
+) -> u8
+    ensures { λ n. ⌜ called n (now (answer .exit)) ≡ given flagWords (conflictCall (now (pool .entry)) (stateOf root used) (rankOf key) seen xmax (now (active .entry)) (currentOf «has_current» current)) (now (answer .entry)) ⌝ }
+{
+    let st = State { root, used };
+    let cur = current_of(has_current, current);
+    give_told(
+        answer,
+        reads::has_write_conflict(pool, st, key, seen, xmax, active, cur),
+    )
+}
+
+#[no_mangle]
+pub extern "C" fn erbulonge_versions_of(
+    pool: &[u8],
+    root: u32,
+    used: u32,
+    key: i32,
+    out: &mut [u8],
+    answer: &mut [u64; 8],
+) -> u8
+    ensures { λ n. ⌜ calledList n (now (answer .exit)) (now (out .exit)) ≡ givenList (versionsOfCall (now (pool .entry)) (stateOf root used) (rankOf key) (now (out .entry))) (now (answer .entry)) ⌝ }
+{
+    let st = State { root, used };
+    give_listed(answer, reads::versions_of(pool, st, key, out))
+}
+
+#[no_mangle]
+pub extern "C" fn erbulonge_all_versions(
+    pool: &[u8],
+    root: u32,
+    used: u32,
+    out: &mut [u8],
+    answer: &mut [u64; 8],
+) -> u8
+    ensures { λ n. ⌜ calledList n (now (answer .exit)) (now (out .exit)) ≡ givenList (allVersionsCall (now (pool .entry)) (stateOf root used) (now (out .entry))) (now (answer .entry)) ⌝ }
+{
+    let st = State { root, used };
+    give_listed(answer, reads::all_versions(pool, st, out))
+}
+
+#[no_mangle]
+pub extern "C" fn erbulonge_scan_visible(
+    pool: &[u8],
+    root: u32,
+    used: u32,
+    xmax: u64,
+    active: &[u64],
+    has_current: bool,
+    current: u64,
+    ids: &[u64],
+    states: &[u8],
+    out: &mut [u8],
+    answer: &mut [u64; 8],
+) -> u8
+    ensures { λ n. ⌜ calledList n (now (answer .exit)) (now (out .exit)) ≡ givenList (scanVisibleCall (now (pool .entry)) (stateOf root used) xmax (now (active .entry)) (currentOf «has_current» current) (now (ids .entry)) (now (states .entry)) (now (out .entry))) (now (answer .entry)) ⌝ }
+{
+    let st = State { root, used };
+    let cur = current_of(has_current, current);
+    give_listed(
+        answer,
+        reads::scan_visible(pool, st, xmax, active, cur, ids, states, out),
+    )
+}
+
+#[no_mangle]
+pub extern "C" fn erbulonge_page_numbers(
+    pool: &[u8],
+    root: u32,
+    used: u32,
+    out: &mut [u8],
+    answer: &mut [u64; 8],
+) -> u8
+    ensures { λ n. ⌜ calledList n (now (answer .exit)) (now (out .exit)) ≡ givenList (pageNumbersCall (now (pool .entry)) (stateOf root used) (now (out .entry))) (now (answer .entry)) ⌝ }
+{
+    let st = State { root, used };
+    give_listed(answer, reads::page_numbers(pool, st, out))
+}
