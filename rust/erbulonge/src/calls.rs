@@ -1,7 +1,9 @@
 //! The exported calls as they are: each gives its number (0 is Done) and, when
 //! Done, what it gives as words at the start of `answer`. The methods of
-//! [`State`] are these with names for the numbers. The only unsafe code is here:
-//! a slice goes over as its pointer and its length.
+//! [`State`] are these with names for the numbers.
+//!
+//! The only unsafe code is here. A slice goes over as its pointer and its length;
+//! the port is proved to touch no byte outside of it, and keeps no pointer.
 use crate::{Snapshot, State, Statuses};
 
 /// A version is creator, 1 and deleter or 0 and 0, 1 and page and slot or three
