@@ -1,6 +1,7 @@
 // What the booking server calls in-process (document 01, sections 6 and 9): numbers and slices in, the answer's number
 // back, what Done gives as words at the start of a lent array. Each call is the one of `reads` that it names.
 ghost use mathlib.Core.Path.{_≡_};
+ghost use lib.ListN.{length};
 ghost use Rattle.store.specs.Part.{put};
 ghost use Rattle.page.specs.Key.{rankOf};
 ghost use Rattle.reads.specs.Answer.{ofCreated, ofFound, ofTold};
@@ -27,7 +28,8 @@ fn current_of(has: bool, tx: u64) -> Current
     Current::Nobody
 }
 
-fn give_stamp(answer: &mut [u64; 8], s: Stamp)
+fn give_stamp(answer: &mut [u64], s: Stamp)
+    requires { ⌜ length (now answer) ≡ 8 ⌝ }
     ensures { λ _. ⌜ now (answer .exit) ≡ put 1 (stampWords s) (now (answer .entry)) ⌝ }
 {
     match s {
@@ -42,7 +44,8 @@ fn give_stamp(answer: &mut [u64; 8], s: Stamp)
     }
 }
 
-fn give_pointer(answer: &mut [u64; 8], p: Pointer)
+fn give_pointer(answer: &mut [u64], p: Pointer)
+    requires { ⌜ length (now answer) ≡ 8 ⌝ }
     ensures { λ _. ⌜ now (answer .exit) ≡ put 3 (pointerWords p) (now (answer .entry)) ⌝ }
 {
     match p {
@@ -59,7 +62,8 @@ fn give_pointer(answer: &mut [u64; 8], p: Pointer)
     }
 }
 
-fn give_version(answer: &mut [u64; 8], v: Version)
+fn give_version(answer: &mut [u64], v: Version)
+    requires { ⌜ length (now answer) ≡ 8 ⌝ }
     ensures { λ _. ⌜ now (answer .exit) ≡ put 0 (versionWords v) (now (answer .entry)) ⌝ }
 {
     let stamp = v.stamp;
@@ -71,7 +75,8 @@ fn give_version(answer: &mut [u64; 8], v: Version)
     answer[7] = v.len as u64;
 }
 
-fn give_found(answer: &mut [u64; 8], r: Found) -> u8
+fn give_found(answer: &mut [u64], r: Found) -> u8
+    requires { ⌜ length (now answer) ≡ 8 ⌝ }
     ensures { λ n. ⌜ called n (now (answer .exit)) ≡ given versionWords (ofFound r) (now (answer .entry)) ⌝ }
 {
     match r {
@@ -83,7 +88,8 @@ fn give_found(answer: &mut [u64; 8], r: Found) -> u8
     }
 }
 
-fn give_told(answer: &mut [u64; 8], r: Told) -> u8
+fn give_told(answer: &mut [u64], r: Told) -> u8
+    requires { ⌜ length (now answer) ≡ 8 ⌝ }
     ensures { λ n. ⌜ called n (now (answer .exit)) ≡ given flagWords (ofTold r) (now (answer .entry)) ⌝ }
 {
     match r {
@@ -95,7 +101,8 @@ fn give_told(answer: &mut [u64; 8], r: Told) -> u8
     }
 }
 
-fn give_created(answer: &mut [u64; 8], r: Created) -> u8
+fn give_created(answer: &mut [u64], r: Created) -> u8
+    requires { ⌜ length (now answer) ≡ 8 ⌝ }
     ensures { λ n. ⌜ called n (now (answer .exit)) ≡ given stateWords (ofCreated r) (now (answer .entry)) ⌝ }
 {
     match r {
