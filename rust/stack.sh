@@ -9,7 +9,6 @@ objdump -dr --no-show-raw-insn -M intel ../target/staticlib/libport.a | awk '
         for (i = 3; i <= length(s); i++) n = n * 16 + index("0123456789abcdef", substr(s, i, 1)) - 1
         return n
     }
-    function calls(to) { if (to in frame || to !~ /[+]0x/) called[f, to] = 1 }
     function deepest(g,   pair, part, most, n) {
         for (pair in called) {
             split(pair, part, SUBSEP)
@@ -17,11 +16,11 @@ objdump -dr --no-show-raw-insn -M intel ../target/staticlib/libport.a | awk '
         }
         return frame[g] * ((g, g) in called ? 4 : 1) + most
     }
-    /^[0-9a-f]+ <.*>:$/ { f = $2; gsub(/[<>:]/, "", f); frame[f] = 8 }
+    /^[0-9a-f]+ <.*>:$/ { f = $2; sub(/^</, "", f); sub(/>:$/, "", f); frame[f] = 8 }
     $2 == "push" { frame[f] += 8 }
     $2 == "sub" && $3 ~ /^rsp,0x/ { frame[f] += hex(substr($3, 5)) }
     $2 == "and" && $3 ~ /^rsp,/ { frame[f] += 64 }
-    $2 == "call" && $4 ~ /^<[^+]*>$/ { calls(substr($4, 2, length($4) - 2)) }
-    $2 ~ /^R_X86_64_(PLT32|PC32|GOTPCREL)/ && $3 ~ /-0x4$/ { sub(/-0x4$/, "", $3); if ($3 !~ /^\./) calls($3) }
+    $2 == "call" && $4 ~ /^<[^+]*>$/ { to = $4; gsub(/[<>]/, "", to); called[f, to] = 1 }
+    $2 ~ /^R_X86_64_/ && sub(/-0x4$/, "", $3) && $3 !~ /^[.]L/ { sub(/^[.]text[.]/, "", $3); called[f, $3] = 1 }
     END { for (g in frame) if (g ~ /^erbulonge_/) printf "%-32s %6d bytes\n", g, deepest(g) }
 ' | sort
