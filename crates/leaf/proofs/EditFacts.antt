@@ -52,7 +52,7 @@ module _ (s : List ℕ) where
       by-read (CellRead.Bad kind) e ih = tt
       by-read (CellRead.Got c) e ih = (e, ih c)
 
-  chain-back : (at : ℕ) (cs : List Cell) → Chain s at cs → cellsOf (length cs) at s ≡ cs
+  pub chain-back : (at : ℕ) (cs : List Cell) → Chain s at cs → cellsOf (length cs) at s ≡ cs
   unfolding cellsOf
   chain-back at [] h = refl
   chain-back at (c ∷ cs) h = rw (h .0, chain-back (c .next) cs (h .1))
@@ -73,7 +73,7 @@ module _ (s : List ℕ) where
       let p = cell-placed s at c (h .0) in
       omega (arith, chain-grows (c .next) cs (h .1))
 
-  chain-inside : (at : ℕ) (cs : List Cell) → at ≤ length s → Chain s at cs → endOf at cs ≤ length s
+  pub chain-inside : (at : ℕ) (cs : List Cell) → at ≤ length s → Chain s at cs → endOf at cs ≤ length s
   unfolding endOf
   chain-inside at [] h k = h
   chain-inside at (c ∷ cs) h k = chain-inside (c .next) cs (cell-placed s at c (k .0) .inside) (k .1)
@@ -134,12 +134,12 @@ judged-all s p k c (suc n) at e h = by-step (stepOf p k c at s) refl (λ x. judg
         let u : cellsOf (suc n) at s ≡ x ∷ cellsOf n (x .next) s = rw (t .0) in
         record { count = rw u (ap suc (i .count)); end = rw u (i .end); rising = rw u (t .1, i .rising) }
 
-judged-leaf : (pg : List ℕ) (e : ℕ) → judgeLeaf 0 pg ≡ Judged.Ok e → AllThere pg 0 0 (cellCount pg) 12 e
+pub judged-leaf : (p : ℕ) (pg : List ℕ) (e : ℕ) → judgeLeaf p pg ≡ Judged.Ok e → AllThere pg 0 0 (cellCount pg) 12 e
 unfolding judgeLeaf
-judged-leaf pg e h = by-type (eqb (nodeType pg) 1) h
+judged-leaf p pg e h = by-type (eqb (nodeType pg) 1) h
   where
-    by-type : (b : Bool) → pick b (judgeCells 0 0 0 (cellCount pg) 12 pg) (Judged.Bad (structural 0)) ≡ Judged.Ok e → AllThere pg 0 0 (cellCount pg) 12 e
-    by-type true w = judged-all pg 0 0 0 (cellCount pg) 12 e w
+    by-type : (b : Bool) → pick b (judgeCells p 0 0 (cellCount pg) 12 pg) (Judged.Bad (structural p)) ≡ Judged.Ok e → AllThere pg 0 0 (cellCount pg) 12 e
+    by-type true w = judged-all pg p 0 0 (cellCount pg) 12 e w
     by-type false w = absurd (let z : _≡_ {A = ℕ} 0 1 = cc in omega arith)
 
 -- the page's bytes, where its cells are split into xs and ys
@@ -152,7 +152,7 @@ pub record Split (pg : List ℕ) (e : ℕ) (xs ys : List Cell) : Type 0 where
 
 pub split-at : (pg : List ℕ) (e : ℕ) (xs ys : List Cell) → Sound pg e → cells pg ≡ xs ++ ys → Split pg e xs ys
 split-at pg e xs ys sound h =
-    let there = judged-leaf pg e (sound .judged) in
+    let there = judged-leaf 0 pg e (sound .judged) in
     let all : Chain pg 12 (xs ++ ys) = subst (Chain pg 12) h (chain-cells pg (cellCount pg) 12) in
     let l = chain-left pg 12 xs ys all in
     let r = chain-right pg 12 xs ys all in
@@ -221,7 +221,7 @@ rows-are-read rs pg len fit h =
 
 pub rows-fill : RowsFill
 rows-fill pg e sound =
-    let there = judged-leaf pg e (sound .judged) in
+    let there = judged-leaf 0 pg e (sound .judged) in
     let s = split-at pg e (cells pg) [] sound (sym (append-nil (cells pg))) in
     let n : length (part 0 12 pg ++ rowsBytes (rows pg)) ≡ e = sym (ap length (s .front)) ∙ (rw (there .end) (length-part 0 e pg (omega (arith, s .within, sound .whole)))) in (
       omega (arith, simp length-append at n, head-length pg [] (sound .whole)),
@@ -330,7 +330,7 @@ pub place-split : (pg : List ℕ) (e k c : ℕ) → Sound pg e → PlaceSplit pg
 unfolding placeOf
 place-split pg e k c sound =
     let cs = cells pg in
-    let p = placed k c 0 0 12 0 cs (judged-leaf pg e (sound .judged) .rising) in
+    let p = placed k c 0 0 12 0 cs (judged-leaf 0 pg e (sound .judged) .rising) in
     let z : 0 + p .count ≡ p .count = omega arith in
     record { count = p .count; here = p .there ∙ rw z; split = split-at pg e (take (p .count) cs) (drop (p .count) cs) sound (sym (take-append-drop (p .count) cs)) }
 
@@ -379,7 +379,7 @@ stamp-stamps pg e d before after c sound h room =
     let f = rowOf pg in
     let rs = map f before ++ (stampRow d (f c) ∷ map f after) in
     let n : cellCount pg ≡ length rs
-    = omega (arith, length-append (map f before) (stampRow d (f c) ∷ map f after), length-map before f, length-map after f, simp length-append at (ap length h), judged-leaf pg e (sound .judged) .count) in
+    = omega (arith, length-append (map f before) (stampRow d (f c) ∷ map f after), length-map before f, length-map after f, simp length-append at (ap length h), judged-leaf 0 pg e (sound .judged) .count) in
     ap (pad 4096) (stamp-spliced pg e d before after c sound h) ∙ sym (count-kept pg (rowsBytes rs) (sound .whole) (length rs) (sound .bytes) n)
 
 -- where the first cells end, by their bytes
@@ -391,7 +391,7 @@ pub out-is-out : OutIsOut
 unfolding without writeRows
 out-is-out pg e before out after sound h =
     let f = rowOf pg in
-    let there = judged-leaf pg e (sound .judged) in
+    let there = judged-leaf 0 pg e (sound .judged) in
     let s = split-at pg e before (out ++ after) sound h in
     let t = split-at pg e (before ++ out) after sound (h ∙ sym (append-assoc before out after)) in
     let front = map f before in

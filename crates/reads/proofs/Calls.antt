@@ -1,56 +1,34 @@
 -- The ways out of the reading calls, one law each. Assumes nothing.
-use mathlib.Core.Path.{_≡_, refl, sym, ap, _∙_}
+use mathlib.Core.Path.{_≡_, refl, sym, _∙_}
 use mathlib.Core.Bool.{Bool, true, false}
 use mathlib.Core.List.{List, []}
-use Prim.Native.Nat.{ℕ, _+_, _-_, _*_, _/_, _≤_, _<_}
+use Prim.Native.Nat.{ℕ, _/_, _≤_, _<_}
 use native.Mathlib.Omega.{arith}
 use borrow.Author.Tests.{lt-ltb, le-ltb}
 use lib.ListN.{length}
-use borrow.Rule.Slice.PartMut.{midOf, putMid}
 use Rattle.store.specs.Pick.{pick}
-use Rattle.page.specs.Pool.{goodPool, allocated, nextPage, withFresh}
-use Rattle.page.specs.Header.{withNodeType, withIsRoot}
-use Rattle.page.proofs.PageLaws.{back-page, lent-page, page-short}
+use Rattle.page.specs.Pool.{goodPool}
 use Rattle.page.specs.declared.pool.State.{State}
-use Rattle.page.specs.declared.pool.Allocated.{Allocated}
-use Rattle.page.specs.Page.{page}
 use Rattle.row.specs.declared.Version.{Version}
 use Rattle.row.specs.declared.Cell.{Cell}
-use Rattle.row.specs.declared.Fault.{Fault}
-use Rattle.row.proofs.Exact.{cell-placed}
 use Rattle.mvcc.specs.Lists.{rising, lookup, goodActive, goodStatuses, Judged}
 use Rattle.mvcc.specs.declared.Current.{Current}
-use Rattle.tree.specs.Descend.{descendOf}
 use Rattle.leaf.specs.declared.find.Best.{Best}
-use Rattle.tree.specs.Chain.{bestAlong, testAlong}
+use Rattle.tree.specs.Create.{rooted, createdPool}
+use Rattle.tree.specs.Lookup.{bestInTree, testInTree, inPool}
 use Rattle.tree.specs.Check.{wellFormed}
-use Rattle.tree.proofs.Found.{FoundIn, best-in}
-use Rattle.tree.specs.declared.Route.{Route}
-use Rattle.tree.specs.declared.Descent.{Descent}
+use Rattle.tree.proofs.Looking.{found-in, start-small}
 use Rattle.tree.specs.declared.ChainBest.{ChainBest}
 use Rattle.tree.specs.declared.ChainTest.{ChainTest}
 use Rattle.reads.specs.Answer.{Outcome, done, refused}
-use Rattle.reads.specs.Create.{rooted, createdPool, createCall, createAfter}
-use Rattle.reads.specs.Find.{plain, badTree, lookedBest, onLeaf, lookOf, findVisibleRun, inPool, findVisibleCall}
-use Rattle.reads.specs.Conflict.{toldTest, conflictOf, conflictCall}
+use Rattle.reads.specs.Create.{createCall, createAfter}
+use Rattle.reads.specs.Find.{plain, lookedBest, findVisibleRun, findVisibleCall}
+use Rattle.reads.specs.Conflict.{toldTest, conflictCall}
 use Rattle.reads.specs.Check.{checkCall}
 use Rattle.reads.specs.declared.Looked.{Looked}
 use Rattle.reads.specs.declared.Refusal.{Refusal}
 
 -- ---- create
-
-module _ (s : List ℕ) (st : State) {f : Allocated} (given : f ≡ allocated s st) where
-  pub root-state : record { root = f .page; used = f .state .used } ≡ rooted s st
-  unfolding allocated
-  root-state = ap (λ (x : Allocated). record { root = x .page; used = x .state .used }) given
-
-  pub root-done : {t y : List ℕ} → t ≡ withFresh s st
-      → y ≡ withIsRoot 1 (withNodeType 1 (midOf (f .page * 4096) (f .page * 4096 + 4096 - f .page * 4096) t))
-      → putMid (f .page * 4096) (f .page * 4096 + 4096 - f .page * 4096) t y ≡ createdPool s st
-  unfolding createdPool allocated
-  root-done {t} {y} e q =
-      let n : f .page ≡ nextPage s st = ap (λ (x : Allocated). x .page) given in
-      back-page (f .page) t y ∙ rw (q, lent-page (f .page) t, n, e)
 
 module _ (s : List ℕ) (st : State) where
   pub create-bad : {b : Bool} → b ≡ goodPool s st → b ≡ false → (refused 1 ≡ createCall s st) × (s ≡ createAfter s st)
@@ -69,17 +47,6 @@ module _ (s : List ℕ) (st : State) where
 
 -- ---- lookup
 
-module _ (st : ℕ → ℕ) (active : List ℕ) (xmax : ℕ) (cur : Current) (state : State) (key : ℕ) (s : List ℕ)
-    {d : Descent} (way : d ≡ descendOf 3 (Route.Search key) (state .used) (state .root) s) where
-  pub look-bad : {f : Fault} → d ≡ Descent.Bad f → Looked.Refused (badTree f) ≡ lookOf st active xmax cur state key s
-  unfolding lookOf
-  look-bad e = rw (sym way ∙ e)
-
-  pub look-leaf : {p : ℕ} {r : Looked} {b : ChainBest} → d ≡ Descent.Leaf p → b ≡ bestAlong st active xmax cur (state .used) key p s → r ≡ lookedBest b
-      → r ≡ lookOf st active xmax cur state key s
-  unfolding lookOf
-  look-leaf e q u = u ∙ rw (sym way ∙ e, q)
-
 module _ (s : List ℕ) (state : State) (key xmax : ℕ) (active : List ℕ) (cur : Current) (ids states : List ℕ) where
   pub run-pool : {a : Bool} {r : Refusal} → a ≡ goodPool s state → a ≡ false → r ≡ plain 1 → Looked.Refused r ≡ findVisibleRun s state key xmax active cur ids states
   unfolding findVisibleRun
@@ -96,41 +63,33 @@ module _ (s : List ℕ) (state : State) (key xmax : ℕ) (active : List ℕ) (cu
       unfolding findVisibleRun
       run-statuses e t u = rw (sym pool ∙ pool-good, sym list ∙ list-good, sym e ∙ t, u)
 
-      pub run-look : {c : Bool} {r : Looked} → c ≡ goodStatuses ids states → c ≡ true → r ≡ lookOf (lookup ids states) active xmax cur state key s
+      pub run-look : {c : Bool} {b : ChainBest} {r : Looked} → c ≡ goodStatuses ids states → c ≡ true
+          → b ≡ bestInTree (lookup ids states) active xmax cur (state .used) (state .root) key s → r ≡ lookedBest b
           → r ≡ findVisibleRun s state key xmax active cur ids states
       unfolding findVisibleRun
-      run-look e t u = u ∙ rw (sym pool ∙ pool-good, sym list ∙ list-good, sym e ∙ t)
+      run-look e t q u = u ∙ rw (sym pool ∙ pool-good, sym list ∙ list-good, sym e ∙ t, q)
 
 -- ---- what a lookup found
-
-start-small : (s : List ℕ) (used p : ℕ) (c : Cell) → FoundIn s used p c → c .version .start ≤ 4096
-start-small s used p c f = let q = cell-placed (page p s) (c .at) c (f .there) in omega (arith, q .whole, q .inside, page-short p s)
-
-look-found : (st : ℕ → ℕ) (active : List ℕ) (xmax : ℕ) (cur : Current) (state : State) (key : ℕ) (s : List ℕ) {p : ℕ} {c : Cell}
-    → lookOf st active xmax cur state key s ≡ Looked.At p c → FoundIn s (state .used) p c
-unfolding lookOf
-look-found st active xmax cur state key s {p} {c} e = by-way (descendOf 3 (Route.Search key) (state .used) (state .root) s) e
-  where
-    by-best : (q : ℕ) (b : ChainBest) → bestAlong st active xmax cur (state .used) key q s ≡ b → lookedBest b ≡ Looked.At p c → FoundIn s (state .used) p c
-    by-best q (ChainBest.Ok (Best.At r d)) t u =
-        let v : ChainBest.Ok (Best.At r d) ≡ ChainBest.Ok (Best.At p c) = cc in
-        best-in st active xmax cur (state .used) key s q (t ∙ v)
-    by-best q (ChainBest.Ok Best.Nothing) t u = absurd (let z : _≡_ {A = ℕ} 0 1 = cc in omega arith)
-    by-best q (ChainBest.Bad f) t u = absurd (let z : _≡_ {A = ℕ} 0 1 = cc in omega arith)
-
-    by-way : (d : Descent) → onLeaf (λ q. lookedBest (bestAlong st active xmax cur (state .used) key q s)) (λ f. Looked.Refused (badTree f)) d ≡ Looked.At p c → FoundIn s (state .used) p c
-    by-way (Descent.Leaf q) u = by-best q (bestAlong st active xmax cur (state .used) key q s) refl u
-    by-way (Descent.Bad f) u = absurd (let z : _≡_ {A = ℕ} 0 1 = cc in omega arith)
 
 module _ (s : List ℕ) (state : State) (key xmax : ℕ) (active : List ℕ) (cur : Current) (ids states : List ℕ) where
   pub run-small : {r : Looked} {p : ℕ} {c : Cell} → r ≡ findVisibleRun s state key xmax active cur ids states → r ≡ Looked.At p c → c .version .start ≤ 4096
   unfolding findVisibleRun
   run-small {r} {p} {c} e q = by-tests (goodPool s state) (goodActive active) (goodStatuses ids states) (sym e ∙ q)
     where
+      by-best : (b : ChainBest) → bestInTree (lookup ids states) active xmax cur (state .used) (state .root) key s ≡ b → lookedBest b ≡ Looked.At p c → c .version .start ≤ 4096
+      by-best (ChainBest.Ok (Best.At q d)) t u =
+          let v : ChainBest.Ok (Best.At q d) ≡ ChainBest.Ok (Best.At p c) = cc in
+          start-small s (state .used) p c (found-in (lookup ids states) active xmax cur (state .used) (state .root) key s (t ∙ v))
+      by-best (ChainBest.Ok Best.Nothing) t u = absurd (let w : _≡_ {A = ℕ} 0 1 = cc in omega arith)
+      by-best (ChainBest.Bad f) t u = absurd (let w : _≡_ {A = ℕ} 0 1 = cc in omega arith)
+
       by-tests : (x y z : Bool)
-          → pick x (pick y (pick z (lookOf (lookup ids states) active xmax cur state key s) (Looked.Refused (plain 4))) (Looked.Refused (plain 3))) (Looked.Refused (plain 1)) ≡ Looked.At p c
+          → pick x
+          (pick y (pick z (lookedBest (bestInTree (lookup ids states) active xmax cur (state .used) (state .root) key s)) (Looked.Refused (plain 4))) (Looked.Refused (plain 3)))
+          (Looked.Refused (plain 1))
+          ≡ Looked.At p c
           → c .version .start ≤ 4096
-      by-tests true true true u = start-small s (state .used) p c (look-found (lookup ids states) active xmax cur state key s u)
+      by-tests true true true u = by-best (bestInTree (lookup ids states) active xmax cur (state .used) (state .root) key s) refl u
       by-tests true true false u = absurd (let w : _≡_ {A = ℕ} 0 1 = cc in omega arith)
       by-tests true false z u = absurd (let w : _≡_ {A = ℕ} 0 1 = cc in omega arith)
       by-tests false y z u = absurd (let w : _≡_ {A = ℕ} 0 1 = cc in omega arith)
@@ -151,17 +110,6 @@ pub none-judged : Judged [] []
 unfolding rising
 none-judged = record { rises = refl; same = refl }
 
-module _ (active : List ℕ) (xmax : ℕ) (cur : Current) (state : State) (key seen : ℕ) (s : List ℕ)
-    {d : Descent} (way : d ≡ descendOf 3 (Route.Search key) (state .used) (state .root) s) where
-  pub conflict-bad : {f : Fault} → d ≡ Descent.Bad f → refused 2 ≡ conflictOf active xmax cur state key seen s
-  unfolding conflictOf
-  conflict-bad e = rw (sym way ∙ e)
-
-  pub conflict-leaf : {p : ℕ} {r : Outcome Bool} {b : ChainTest} → d ≡ Descent.Leaf p → b ≡ testAlong false (lookup [] []) active xmax cur (state .used) seen key p s
-      → r ≡ toldTest b → r ≡ conflictOf active xmax cur state key seen s
-  unfolding conflictOf
-  conflict-leaf e q u = u ∙ rw (sym way ∙ e, q)
-
 module _ (s : List ℕ) (state : State) (key seen xmax : ℕ) (active : List ℕ) (cur : Current) where
   pub conflict-pool : {a : Bool} → a ≡ goodPool s state → a ≡ false → refused 1 ≡ conflictCall s state key seen xmax active cur
   unfolding conflictCall
@@ -172,10 +120,11 @@ module _ (s : List ℕ) (state : State) (key seen xmax : ℕ) (active : List ℕ
     unfolding conflictCall
     conflict-active e t = rw (sym pool ∙ pool-good, sym e ∙ t)
 
-    pub conflict-test : {b : Bool} {rank : ℕ} {r : Outcome Bool} → b ≡ goodActive active → b ≡ true → rank ≡ key → r ≡ conflictOf active xmax cur state rank seen s
+    pub conflict-test : {b : Bool} {rank : ℕ} {x : ChainTest} {r : Outcome Bool} → b ≡ goodActive active → b ≡ true → rank ≡ key
+        → x ≡ testInTree false (lookup [] []) active xmax cur (state .used) (state .root) seen rank s → r ≡ toldTest x
         → r ≡ conflictCall s state key seen xmax active cur
     unfolding conflictCall
-    conflict-test e t k u = u ∙ rw (sym pool ∙ pool-good, sym e ∙ t, k)
+    conflict-test e t k q u = u ∙ rw (sym pool ∙ pool-good, sym e ∙ t, q, k)
 
 -- ---- check
 

@@ -7,6 +7,7 @@ use Rattle.row.specs.declared.Version.{Version}
 use Rattle.reads.specs.declared.Created.{Created}
 use Rattle.reads.specs.declared.Found.{Found}
 use Rattle.reads.specs.declared.Told.{Told}
+use Rattle.reads.specs.declared.Listed.{Listed}
 
 -- what Done gives, or nothing: "a refusal carries its number only"
 pub data Value (A : Type 0) : Type 0 where
@@ -23,7 +24,8 @@ done a = record { number = 0; gives = value a }
 abbrev pub refused : {A : Type 0} → ℕ → Outcome A
 refused n = record { number = n; gives = nothing }
 
--- 0 Done with the new state (create), the version (lookup), yes or no (check, conflict); the others by their number
+-- 0 Done with the new state (create), the version (lookup), yes or no (check, conflict), bytes written (listings); the
+-- others by their number
 abbrev pub ofCreated : Created → Outcome State
 ofCreated (Created.Done st) = done st
 ofCreated (Created.Refused n) = refused n
@@ -35,3 +37,7 @@ ofFound (Found.Refused n) = refused n
 abbrev pub ofTold : Told → Outcome Bool
 ofTold (Told.Done b) = done b
 ofTold (Told.Refused n) = refused n
+
+abbrev pub ofListed : Listed → Outcome ℕ
+ofListed (Listed.Done n) = done n
+ofListed (Listed.Refused n) = refused n

@@ -8,24 +8,15 @@ use Rattle.page.specs.Pool.{goodPool}
 use Rattle.page.specs.declared.pool.State.{State}
 use Rattle.mvcc.specs.Lists.{lookup, goodActive}
 use Rattle.mvcc.specs.declared.Current.{Current}
-use Rattle.tree.specs.Descend.{descendOf}
-use Rattle.tree.specs.Chain.{testAlong}
-use Rattle.tree.specs.declared.Route.{Route}
+use Rattle.tree.specs.Lookup.{testInTree}
 use Rattle.tree.specs.declared.ChainTest.{ChainTest}
 use Rattle.reads.specs.Answer.{Outcome, done, refused}
-use Rattle.reads.specs.Find.{onLeaf}
 
 abbrev pub toldTest : ChainTest → Outcome Bool
 toldTest (ChainTest.Ok b) = done b
 toldTest (ChainTest.Bad f) = refused 2
 
--- the test itself, on a pool and a list that were judged
-unfoldable pub conflictOf : List ℕ → ℕ → Current → State → (key seen : ℕ) → List ℕ → Outcome Bool
-conflictOf active xmax cur state key seen s =
-    onLeaf (λ p. toldTest (testAlong false (lookup [] []) active xmax cur (state .used) seen key p s)) (λ f. refused 2)
-    (descendOf 3 (Route.Search key) (state .used) (state .root) s)
-
 -- 1, 3, 2
 unfoldable pub conflictCall : List ℕ → State → (key seen : ℕ) → (xmax : ℕ) → List ℕ → Current → Outcome Bool
 conflictCall s state key seen xmax active cur =
-    pick (goodPool s state) (pick (goodActive active) (conflictOf active xmax cur state key seen s) (refused 3)) (refused 1)
+    pick (goodPool s state) (pick (goodActive active) (toldTest (testInTree false (lookup [] []) active xmax cur (state .used) (state .root) seen key s)) (refused 3)) (refused 1)

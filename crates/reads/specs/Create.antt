@@ -5,23 +5,14 @@ use Prim.Native.Nat.{ℕ, _/_}
 use lib.Dec.{ltb}
 use lib.ListN.{length}
 use Rattle.store.specs.Pick.{pick}
-use Rattle.page.specs.Page.{page, setPage}
-use Rattle.page.specs.Header.{withNodeType, withIsRoot}
-use Rattle.page.specs.Pool.{goodPool, nextPage, allocated, withFresh}
+use Rattle.page.specs.Pool.{goodPool}
 use Rattle.page.specs.declared.pool.State.{State}
+use Rattle.tree.specs.Create.{rooted, createdPool}
 use Rattle.reads.specs.Answer.{Outcome, done, refused}
 
 -- a page is left
 abbrev pub hasPage : List ℕ → State → Bool
 hasPage s st = ltb (st .used) (length s / 4096)
-
--- the new root
-abbrev pub rooted : List ℕ → State → State
-rooted s st = record { root = nextPage s st; used = allocated s st .state .used }
-
--- the pool with that page as an empty leaf
-unfoldable pub createdPool : List ℕ → State → List ℕ
-createdPool s st = setPage (nextPage s st) (withIsRoot 1 (withNodeType 1 (page (nextPage s st) (withFresh s st)))) (withFresh s st)
 
 -- 1, 10
 unfoldable pub createCall : List ℕ → State → Outcome State

@@ -1,21 +1,17 @@
 -- Lookup (document 01, sections 4 and 6): the largest visible creator of the key; on a tie the last in chain order.
 -- `findVisibleRun` also says where it was met, or the fault behind a BadTree; the call hides both.
 use mathlib.Core.List.{List}
-use Prim.Native.Nat.{ℕ, _+_, _*_}
+use Prim.Native.Nat.{ℕ}
 use Rattle.store.specs.Pick.{pick}
 use Rattle.page.specs.Pool.{goodPool}
 use Rattle.page.specs.declared.pool.State.{State}
 use Rattle.row.specs.declared.Version.{Version}
-use Rattle.row.specs.declared.Cell.{Cell}
 use Rattle.row.specs.declared.Fault.{Fault}
 use Rattle.mvcc.specs.Lists.{lookup, goodActive, goodStatuses}
 use Rattle.mvcc.specs.Rules.{plainXmax, plainActive}
 use Rattle.mvcc.specs.declared.Current.{Current}
 use Rattle.leaf.specs.declared.find.Best.{Best}
-use Rattle.tree.specs.Descend.{descendOf}
-use Rattle.tree.specs.Chain.{bestAlong}
-use Rattle.tree.specs.declared.Route.{Route}
-use Rattle.tree.specs.declared.Descent.{Descent}
+use Rattle.tree.specs.Lookup.{bestInTree, inPool}
 use Rattle.tree.specs.declared.ChainBest.{ChainBest}
 use Rattle.reads.specs.Answer.{Outcome, done, refused}
 use Rattle.reads.specs.declared.Looked.{Looked}
@@ -34,36 +30,14 @@ lookedBest (ChainBest.Ok (Best.At p c)) = Looked.At p c
 lookedBest (ChainBest.Ok Best.Nothing) = Looked.Refused (plain 8)
 lookedBest (ChainBest.Bad f) = Looked.Refused (badTree f)
 
--- from the leaf that search comes to
-abbrev pub onLeaf : {A : Type 0} → (ℕ → A) → (Fault → A) → Descent → A
-onLeaf good ill (Descent.Leaf p) = good p
-onLeaf good ill (Descent.Bad f) = ill f
-
--- the search itself, on a pool and lists that were judged
-unfoldable pub lookOf : (ℕ → ℕ) → List ℕ → ℕ → Current → State → (key : ℕ) → List ℕ → Looked
-lookOf st active xmax cur state key s =
-    onLeaf (λ p. lookedBest (bestAlong st active xmax cur (state .used) key p s)) (λ f. Looked.Refused (badTree f))
-    (descendOf 3 (Route.Search key) (state .used) (state .root) s)
-
 -- 1, 3, 4, 2, 8
 unfoldable pub findVisibleRun : List ℕ → State → (key : ℕ) → (xmax : ℕ) → List ℕ → Current → List ℕ → List ℕ → Looked
 findVisibleRun s state key xmax active cur ids states =
     pick (goodPool s state)
     (pick (goodActive active)
-    (pick (goodStatuses ids states) (lookOf (lookup ids states) active xmax cur state key s) (Looked.Refused (plain 4)))
+    (pick (goodStatuses ids states) (lookedBest (bestInTree (lookup ids states) active xmax cur (state .used) (state .root) key s)) (Looked.Refused (plain 4)))
     (Looked.Refused (plain 3)))
     (Looked.Refused (plain 1))
-
--- "A returned version's data is that part of the pool, given by start and length."
-abbrev pub inPool : ℕ → Cell → Version
-inPool p c =
-    record {
-      creator = c .version .creator;
-      stamp = c .version .stamp;
-      pointer = c .version .pointer;
-      start = p * 4096 + c .version .start;
-      len = c .version .len;
-    }
 
 abbrev pub hidden : Looked → Outcome Version
 hidden (Looked.At p c) = done (inPool p c)

@@ -1,6 +1,9 @@
 -- What a reader of the contracts of `reads` has to believe.
 pub mod Answer
+pub mod AnswerFacts
 pub mod Create
 pub mod Find
 pub mod Conflict
 pub mod Check
+pub mod Listings
+pub mod Numbers

@@ -35,3 +35,8 @@ descendOf (suc k) route used p s =
     (pick (eqb (nodeType (page p s)) 1) (Descent.Leaf p)
     (onInner (λ n. descendOf k route used (childOf route p n s) s) (λ f. Descent.Bad f) (judgeInner p (page p s))))
     (Descent.Bad (structural p))
+
+-- go on from the leaf that it comes to
+abbrev pub onLeaf : {A : Type 0} → (ℕ → A) → (Fault → A) → Descent → A
+onLeaf good ill (Descent.Leaf p) = good p
+onLeaf good ill (Descent.Bad f) = ill f

@@ -4,5 +4,7 @@ pub mod Chain
 pub mod Distinct
 pub mod Climb
 pub mod ChainFacts
+pub mod Lookup
 pub mod Check
 pub mod CheckFacts
+pub mod Create

@@ -1,9 +1,8 @@
--- `reads::find_visible` meets its contract. Assumes nothing.
+-- `reads::find_visible` meets its contract: each way out is one law of Calls. Assumes nothing.
 use Rattle.reads.proofs.Calls.{run-small, call-found, call-refused}
 use Rattle.page.specs.Key.{rankOf}
 use mir.Facts.{toZ-ofZ}
 use mathlib.Core.Path.{ap, _∙_}
--- `reads::find_visible` meets its contract: each way out is one law of Calls. Assumes nothing.
 use borrow.Author.Needs.{needs}
 use Rattle.reads.proofs.find_visible.Statement.{statement}
 use Rattle.reads.proofs.find_visible.Tie as tie
@@ -20,14 +19,14 @@ enum-known-r c = search needs
 enum-known-p : tie.Need-enum-known-p
 enum-known-p c = search needs
 
-in-pool-requires : tie.Need-in-pool-requires
-in-pool-requires c κs = run-small _ _ _ _ _ _ _ _ (c .before .before .before .find-visible-at .ensures) (c .before .p .given .1)
+version-in-pool-requires : tie.Need-version-in-pool-requires
+version-in-pool-requires c κs = run-small _ _ _ _ _ _ _ _ (c .before .before .before .find-visible-at .ensures) (c .before .p .given .1)
 
 returns : tie.Need-returns
 returns c = call-refused _ _ _ _ _ _ _ _ (c .before .before .before .before .rank-of .ensures ∙ ap rankOf (toZ-ofZ (c .before .before .before .before .before .before .before .before .before .fits .key))) (c .before .before .before .find-visible-at .ensures) (c .before .r .given .1)
 
 returns-2 : tie.Need-returns-2
-returns-2 c = call-found _ _ _ _ _ _ _ _ (c .before .before .before .before .before .rank-of .ensures ∙ ap rankOf (toZ-ofZ (c .before .before .before .before .before .before .before .before .before .before .fits .key))) (c .before .before .before .before .find-visible-at .ensures) (c .before .before .p .given .1) (c .in-pool .ensures)
+returns-2 c = call-found _ _ _ _ _ _ _ _ (c .before .before .before .before .before .rank-of .ensures ∙ ap rankOf (toZ-ofZ (c .before .before .before .before .before .before .before .before .before .before .fits .key))) (c .before .before .before .before .find-visible-at .ensures) (c .before .before .p .given .1) (c .version-in-pool .ensures)
 
 pub find-visible-spec : {M : Type 1} → statement M
 find-visible-spec =
@@ -37,6 +36,6 @@ find-visible-spec =
     find-visible-at-requires
     enum-known-r
     enum-known-p
-    in-pool-requires
+    version-in-pool-requires
     returns
     returns-2)

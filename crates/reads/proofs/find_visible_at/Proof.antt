@@ -1,9 +1,8 @@
--- `reads::find_visible_at` meets its contract. Assumes nothing.
+-- `reads::find_visible_at` meets its contract: each way out is one law of Calls. Assumes nothing.
 use Rattle.reads.proofs.Calls.{run-pool, run-active, run-statuses, run-look}
 use Rattle.mvcc.proofs.Laws.{good-active-rises, good-statuses-judged}
 use Rattle.page.proofs.PoolLaws.{pool-is}
 use mathlib.Core.Path.{sym, _∙_}
--- `reads::find_visible_at` meets its contract: each way out is one law of Calls. Assumes nothing.
 use borrow.Author.Needs.{needs}
 use Rattle.reads.proofs.find_visible_at.Statement.{statement}
 use Rattle.reads.proofs.find_visible_at.Tie as tie
@@ -17,11 +16,14 @@ good-active-requires c κs = search needs
 good-statuses-requires : tie.Need-good-statuses-requires
 good-statuses-requires c κs = search needs
 
-look-requires : tie.Need-look-requires
-look-requires c κs = (pool-is _ _ (sym (c .before .before .before .before .before .pool-is-good .ensures) ∙ c .before .before .before .before .if1 .taken) .room, good-statuses-judged _ _ (sym (c .before .good-statuses .ensures) ∙ c .if3 .taken), good-active-rises _ (sym (c .before .before .before .good-active .ensures) ∙ c .before .before .if2 .taken))
+best-in-tree-requires : tie.Need-best-in-tree-requires
+best-in-tree-requires c κs = (pool-is _ _ (sym (c .before .before .before .before .before .pool-is-good .ensures) ∙ c .before .before .before .before .if1 .taken) .room, good-statuses-judged _ _ (sym (c .before .good-statuses .ensures) ∙ c .if3 .taken), good-active-rises _ (sym (c .before .before .before .good-active .ensures) ∙ c .before .before .if2 .taken))
+
+looked-of-requires : tie.Need-looked-of-requires
+looked-of-requires c κs = search needs
 
 returns : tie.Need-returns
-returns c = run-look _ _ _ _ _ _ _ _ (c .before .before .before .before .before .before .pool-is-good .ensures) (c .before .before .before .before .before .if1 .taken) (c .before .before .before .before .good-active .ensures) (c .before .before .before .if2 .taken) (c .before .before .good-statuses .ensures) (c .before .if3 .taken) (c .look .ensures)
+returns c = run-look _ _ _ _ _ _ _ _ (c .before .before .before .before .before .before .before .pool-is-good .ensures) (c .before .before .before .before .before .before .if1 .taken) (c .before .before .before .before .before .good-active .ensures) (c .before .before .before .before .if2 .taken) (c .before .before .before .good-statuses .ensures) (c .before .before .if3 .taken) (c .before .best-in-tree .ensures) (c .looked-of .ensures)
 
 plain-refusal-requires : tie.Need-plain-refusal-requires
 plain-refusal-requires c κs = search needs
@@ -48,7 +50,8 @@ find-visible-at-spec =
     pool-is-good-requires
     good-active-requires
     good-statuses-requires
-    look-requires
+    best-in-tree-requires
+    looked-of-requires
     returns
     plain-refusal-requires
     returns-2

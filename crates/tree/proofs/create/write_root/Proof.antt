@@ -1,7 +1,7 @@
--- `reads::write_root` meets its contract: two stores. Assumes nothing.
+-- `tree::create::write_root` meets its contract: two stores. Assumes nothing.
 use borrow.Author.Needs.{needs}
-use Rattle.reads.proofs.write_root.Statement.{statement}
-use Rattle.reads.proofs.write_root.Tie as tie
+use Rattle.tree.proofs.create.write_root.Statement.{statement}
+use Rattle.tree.proofs.create.write_root.Tie as tie
 
 set-node-type-requires : tie.Need-set-node-type-requires
 set-node-type-requires c κs = search needs

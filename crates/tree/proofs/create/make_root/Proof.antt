@@ -1,11 +1,10 @@
--- `reads::make_root` meets its contract. Assumes nothing.
-use Rattle.reads.proofs.Calls.{root-state, root-done}
+-- `tree::create::make_root` meets its contract: its way out is two laws of Creating. Assumes nothing.
+use Rattle.tree.proofs.Creating.{root-state, root-done}
 use Rattle.page.proofs.PoolLaws.{alloc-page}
 use native.Mathlib.Omega.{arith}
--- `reads::make_root` meets its contract: each way out is one law of Calls. Assumes nothing.
 use borrow.Author.Needs.{needs}
-use Rattle.reads.proofs.make_root.Statement.{statement}
-use Rattle.reads.proofs.make_root.Tie as tie
+use Rattle.tree.proofs.create.make_root.Statement.{statement}
+use Rattle.tree.proofs.create.make_root.Tie as tie
 
 allocate-requires : tie.Need-allocate-requires
 allocate-requires c κs = search needs

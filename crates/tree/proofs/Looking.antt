@@ -1,0 +1,54 @@
+-- The ways out of a lookup from the root on, one law each, and where what it found stands. Assumes nothing.
+use mathlib.Core.Path.{_≡_, sym, _∙_}
+use mathlib.Core.Bool.{Bool}
+use mathlib.Core.List.{List}
+use Prim.Native.Nat.{ℕ, _≤_}
+use native.Mathlib.Omega.{arith}
+use Rattle.page.specs.Page.{page}
+use Rattle.page.proofs.PageLaws.{page-short}
+use Rattle.row.specs.declared.Cell.{Cell}
+use Rattle.row.specs.declared.Fault.{Fault}
+use Rattle.row.proofs.Exact.{cell-placed}
+use Rattle.mvcc.specs.declared.Current.{Current}
+use Rattle.leaf.specs.declared.find.Best.{Best}
+use Rattle.tree.specs.Descend.{descendOf, onLeaf}
+use Rattle.tree.specs.Chain.{bestAlong, testAlong}
+use Rattle.tree.specs.Lookup.{bestInTree, testInTree}
+use Rattle.tree.specs.declared.Route.{Route}
+use Rattle.tree.specs.declared.Descent.{Descent}
+use Rattle.tree.specs.declared.ChainBest.{ChainBest}
+use Rattle.tree.specs.declared.ChainTest.{ChainTest}
+use Rattle.tree.proofs.Found.{FoundIn, best-in}
+
+module _ (st : ℕ → ℕ) (active : List ℕ) (xmax : ℕ) (cur : Current) (used root key : ℕ) (s : List ℕ) where
+  module _ {d : Descent} (way : d ≡ descendOf 3 (Route.Search key) used root s) where
+    pub best-lost : {f : Fault} → d ≡ Descent.Bad f → ChainBest.Bad f ≡ bestInTree st active xmax cur used root key s
+    unfolding bestInTree
+    best-lost e = rw (sym way ∙ e)
+
+    pub best-leaf : {p : ℕ} {r : ChainBest} → d ≡ Descent.Leaf p → r ≡ bestAlong st active xmax cur used key p s → r ≡ bestInTree st active xmax cur used root key s
+    unfolding bestInTree
+    best-leaf e q = q ∙ rw (sym way ∙ e)
+
+    module _ (claiming : Bool) (seen : ℕ) where
+      pub test-lost : {f : Fault} → d ≡ Descent.Bad f → ChainTest.Bad f ≡ testInTree claiming st active xmax cur used root seen key s
+      unfolding testInTree
+      test-lost e = rw (sym way ∙ e)
+
+      pub test-leaf : {p : ℕ} {r : ChainTest} → d ≡ Descent.Leaf p → r ≡ testAlong claiming st active xmax cur used seen key p s
+          → r ≡ testInTree claiming st active xmax cur used root seen key s
+      unfolding testInTree
+      test-leaf e q = q ∙ rw (sym way ∙ e)
+
+  -- what a lookup found
+  pub found-in : {p : ℕ} {c : Cell} → bestInTree st active xmax cur used root key s ≡ ChainBest.Ok (Best.At p c) → FoundIn s used p c
+  unfolding bestInTree
+  found-in {p} {c} e = by-way (descendOf 3 (Route.Search key) used root s) e
+    where
+      by-way : (d : Descent) → onLeaf (λ q. bestAlong st active xmax cur used key q s) (λ f. ChainBest.Bad f) d ≡ ChainBest.Ok (Best.At p c) → FoundIn s used p c
+      by-way (Descent.Leaf q) u = best-in st active xmax cur used key s q u
+      by-way (Descent.Bad f) u = absurd (let z : _≡_ {A = ℕ} 0 1 = cc in omega arith)
+
+-- what is found stands in its page
+pub start-small : (s : List ℕ) (used p : ℕ) (c : Cell) → FoundIn s used p c → c .version .start ≤ 4096
+start-small s used p c f = let q = cell-placed (page p s) (c .at) c (f .there) in omega (arith, q .whole, q .inside, page-short p s)

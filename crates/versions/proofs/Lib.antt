@@ -1,0 +1,4 @@
+pub mod Recorded
+pub mod Running
+pub mod Gathering
+pub mod Answering
