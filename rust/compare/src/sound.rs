@@ -1,12 +1,12 @@
 //! Well-formed trees: our answers against the oracle's and the rules'.
-use crate::call::{Call, Given, Lists, ours};
+use crate::call::{Call, Given, Lists, Outcome, ours};
 use crate::tally::Tally;
 use crate::{draw, rule, shapes};
 use aerodb_opaque::oracle::Oracle;
-use erbulonge::State;
 use erbulonge::engine::Port;
+use erbulonge::{State, calls};
 use wire::random::{self, Rng};
-use wire::{Ans, Engine, Op, PAGE, Version, page, records};
+use wire::{Ans, Engine, NO_PAGES, Op, PAGE, Version, page, records};
 
 fn listing(answer: &Ans) -> Option<Vec<u8>> {
     match answer {
@@ -92,6 +92,20 @@ fn create(tally: &mut Tally, oracle: &mut Oracle, used: u32) {
     );
 }
 
+/// A refused create changes nothing.
+fn create_refused(tally: &mut Tally, length: usize, used: u32, number: u8) {
+    const FILL: u8 = 0xC3;
+    let mut pool = vec![FILL; length];
+    let mut o = Outcome::start(0);
+    o.number = calls::create(&mut pool, State { root: 0, used }, &mut o.words);
+    let mut expected = Outcome::start(0);
+    expected.number = number;
+    let kept = pool.iter().all(|&byte| byte == FILL);
+    tally.judge(o == expected && kept, || {
+        format!("create on {length} bytes, {used} in use: {}", o.number)
+    });
+}
+
 pub fn creates() -> Tally {
     let mut tally = Tally::new("create");
     for capacity in 1..=6 {
@@ -101,6 +115,19 @@ pub fn creates() -> Tally {
         for used in 0..=capacity {
             create(&mut tally, &mut oracle, used);
         }
+    }
+    for (length, used) in [
+        (0, 0),
+        (1, 0),
+        (4095, 0),
+        (4097, 1),
+        (4096, 2),
+        (4096, u32::MAX),
+    ] {
+        create_refused(&mut tally, length, used, rule::BAD_POOL);
+    }
+    for pages in [1, 3] {
+        create_refused(&mut tally, pages as usize * PAGE, pages, NO_PAGES);
     }
     tally
 }
