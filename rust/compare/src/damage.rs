@@ -6,6 +6,7 @@ use crate::shapes::{self, Built};
 use crate::tally::Tally;
 use crate::{draw, rule};
 use erbulonge::State;
+use wire::page::{cell_sizes, leaves, of_pool};
 use wire::random::Rng;
 use wire::{PAGE, Version};
 
@@ -41,8 +42,7 @@ impl Built {
 
     /// Offsets of a leaf's cells.
     fn cells(&self, page: usize) -> Vec<usize> {
-        let bytes: &Page = self.pool[page * PAGE..][..PAGE].try_into().unwrap();
-        let sizes = wire::page::cell_sizes(bytes);
+        let sizes = cell_sizes(of_pool(&self.pool, page as u32));
         let starts = sizes.iter().scan(12, |at, size| {
             *at += size;
             Some(*at - size)
@@ -104,6 +104,19 @@ fn bad_separators(rng: &mut Rng, b: &mut Built) {
         let at = 16 + 8 * rng.below(count.max(1)) as usize;
         let key = draw::pick(rng, &b.keys).saturating_add(draw::pick(rng, &[0, 1, -1]));
         b.put(n, at, &key.to_le_bytes());
+    }
+}
+
+/// The leaves linked in another order after the first: keys fall along the chain,
+/// and the visible listing must sort them.
+fn falling_keys(rng: &mut Rng, b: &mut Built) {
+    let mut chain = leaves(&b.pool, b.state.root);
+    for i in 2..chain.len() {
+        chain.swap(i, 1 + rng.below(i as u64) as usize);
+    }
+    chain.push(0);
+    for pair in chain.windows(2) {
+        b.put(pair[0] as usize, 8, &pair[1].to_le_bytes());
     }
 }
 
@@ -191,7 +204,7 @@ fn several(rng: &mut Rng, b: &mut Built) {
 /// The first so many keep page numbers and lengths, and go together.
 const SIMPLE: usize = 7;
 
-pub const KINDS: [(&str, Damage); 12] = [
+pub const KINDS: [(&str, Damage); 13] = [
     ("flipped bytes", flipped_bytes),
     ("bad types", bad_types),
     ("bad parent links", bad_parents),
@@ -199,6 +212,7 @@ pub const KINDS: [(&str, Damage); 12] = [
     ("bad next links", bad_chains),
     ("bad children", bad_children),
     ("bad separators", bad_separators),
+    ("leaves linked in another order", falling_keys),
     ("bad cells", bad_cells),
     ("bad roots, pages in use and lengths", bad_states),
     ("pages swapped or copied", swapped_pages),

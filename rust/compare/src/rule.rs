@@ -7,7 +7,7 @@ use std::cmp::Reverse;
 use std::collections::HashSet;
 use std::ops::RangeInclusive;
 use vectors::rule::{Cell, read};
-use wire::page::{children, header};
+use wire::page::{children, header, of_pool};
 use wire::{ABSENT, BAD_SNAPSHOT, BAD_STATUSES, BAD_TREE, PAGE, Snap, records, statuses_ok};
 
 pub const BAD_POOL: u8 = 1;
@@ -44,8 +44,7 @@ fn require(holds: bool, refusal: u8) -> Judged<()> {
 impl<'a> Tree<'a> {
     fn page(&self, n: u32) -> Judged<&'a [u8; PAGE]> {
         require(n < self.state.used, BAD_TREE)?;
-        let at = n as usize * PAGE;
-        Ok(self.pool[at..at + PAGE].try_into().unwrap())
+        Ok(of_pool(self.pool, n))
     }
 
     fn is_leaf(&self, n: u32) -> Judged<bool> {

@@ -1,6 +1,6 @@
 //! The port's reading calls as a `wire::Engine`, for runs against the oracle.
 use crate::{Answer, Found, Snapshot, State, Statuses};
-use wire::{Ans, Engine, Op, PAGE, Snap, Version, records};
+use wire::{Ans, Engine, Op, PAGE, Snap, Version, page, records};
 
 /// A pool of its own with one tree, a status list and a current transaction.
 pub struct Port {
@@ -116,8 +116,7 @@ impl Engine for Port {
     }
 
     fn page(&self, n: u32) -> [u8; PAGE] {
-        let at = n as usize * PAGE;
-        self.pool[at..at + PAGE].try_into().unwrap()
+        *page::of_pool(&self.pool, n)
     }
 
     fn open(&mut self, root: u32) {
