@@ -4,12 +4,11 @@ ghost use Prim.Native.Nat.{_≤_};
 ghost use lib.ListN.{length};
 use crate::fields;
 use crate::fields::AnswerText;
-use crate::fields::Head;
-use crate::fields::HeadText;
 use crate::same;
-use crate::text;
-use crate::text::NumberText;
 use row::read::CellRead;
+use text::NumberText;
+use text::fields::Head;
+use text::fields::HeadText;
 
 // Twice a page: the longest byte string of the list is a page, so a page of the guard stays behind a cell.
 const ROOM: usize = 8192;
@@ -68,7 +67,7 @@ fn writes(h: Head, body: &[u8], cell: &[u8], size: usize) -> bool
 
 // w SOURCE KEY CREATOR STAMP POINTER DATA CELL
 fn write_case(s: &[u8]) -> Outcome {
-    let HeadText::Got(h) = fields::head_of(text::rest(s, 2)) else {
+    let HeadText::Got(h) = text::fields::head_of(text::rest(s, 2)) else {
         return Outcome::Unreadable;
     };
     let mut body = [0u8; ROOM];

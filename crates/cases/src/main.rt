@@ -6,7 +6,6 @@ mod case;
 mod fields;
 mod same;
 mod say;
-mod text;
 
 // The whole list is read at once. One that fills this is refused, since it may go on; a read that fails leaves fewer
 // cases, and the count says so.

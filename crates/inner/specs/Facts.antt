@@ -1,15 +1,13 @@
 -- What is proved of internal pages: the edits say on lists of keys and children what section 5 says.
 use mathlib.Core.Path.{_≡_}
-use mathlib.Core.Bool.{Bool, true, false}
 use mathlib.Core.List.{List, [], _∷_, _++_}
 use Prim.Native.Nat.{ℕ, _+_, _≤_, _<_}
-use lib.Dec.{leb, ltb}
 use lib.ListN.{length, take, drop, getD}
 use Rattle.store.specs.Le.{AreBytes}
 use Rattle.store.specs.Part.{zeros}
 use Rattle.page.specs.Header.{cellCount, nextLeaf}
 use Rattle.inner.specs.Inner.{keysOf, childrenOf}
-use Rattle.inner.specs.Route.{firstWhere, searchRoute, insertRoute}
+use Rattle.inner.specs.Route.{searchRoute, insertRoute}
 use Rattle.inner.specs.Edit.{withEntry, leftHalf, middleKey, rightHalf, topOf}
 
 -- x put in at place i

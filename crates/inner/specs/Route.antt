@@ -1,6 +1,6 @@
 -- Which child a key leads to (document 01, section 5: "Search goes left on key ≤ separator, insertion only on key <
 -- separator"), and which place holds a child.
-use mathlib.Core.Bool.{Bool, _||_}
+use mathlib.Core.Bool.{Bool}
 use mathlib.Core.List.{List, [], _∷_}
 use Prim.Native.Nat.{ℕ, suc}
 use lib.Dec.{leb, ltb, eqb}

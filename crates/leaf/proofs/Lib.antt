@@ -9,3 +9,4 @@ pub mod Dividing
 pub mod EditFacts
 pub mod Sweeping
 pub mod VacuumFacts
+pub mod Choosing

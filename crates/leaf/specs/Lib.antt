@@ -9,3 +9,4 @@ pub mod Vacuum
 pub mod VacuumFacts
 pub mod Divide
 pub mod EditFacts
+pub mod FindFacts

@@ -7,3 +7,4 @@ pub mod Conflict
 pub mod Check
 pub mod Listings
 pub mod Numbers
+pub mod Scan

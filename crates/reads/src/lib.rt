@@ -10,6 +10,7 @@ ghost use Rattle.reads.specs.Check.{checkCall};
 ghost use Rattle.listing.specs.Listed.{written};
 ghost use Rattle.reads.specs.Listings.{listedAt, listRun, toldListed, versionsOfCall, allVersionsCall};
 ghost use Rattle.reads.specs.Numbers.{numbersRun, pageNumbersCall};
+ghost use Rattle.reads.specs.Scan.{scanRun, scanVisibleCall};
 use leaf::find::Best;
 use listing::Listing;
 use mvcc::Current;
@@ -290,4 +291,54 @@ pub fn page_numbers(pool: &[u8], st: State, out: &mut [u8]) -> Listed
     ensures { λ r. ⌜ written (ofListed r) (now (out .exit)) ≡ pageNumbersCall (now (pool .entry)) st (now (out .entry)) ⌝ }
 {
     listed_of(numbers_at(pool, st, out))
+}
+
+// The visible versions, with the fault behind a BadTree.
+pub fn scan_at(
+    pool: &[u8],
+    st: State,
+    xmax: u64,
+    active: &[u64],
+    cur: Current,
+    ids: &[u64],
+    states: &[u8],
+    out: &mut [u8],
+) -> ListedAt
+    ensures { λ r. ⌜ written r (now (out .exit)) ≡ scanRun (now (pool .entry)) st xmax (now (active .entry)) cur (now (ids .entry)) (now (states .entry)) (now (out .entry)) ⌝ }
+{
+    if page::pool::pool_is_good(pool, st) {
+        if mvcc::lists::good_active(active) {
+            if mvcc::lists::good_statuses(ids, states) {
+                return listed_at(scan::scan_tree(
+                    pool,
+                    out,
+                    ids,
+                    states,
+                    active,
+                    xmax,
+                    cur,
+                    st.used,
+                    st.root,
+                ));
+            }
+            return ListedAt::Refused(plain_refusal(4));
+        }
+        return ListedAt::Refused(plain_refusal(3));
+    }
+    ListedAt::Refused(plain_refusal(1))
+}
+
+pub fn scan_visible(
+    pool: &[u8],
+    st: State,
+    xmax: u64,
+    active: &[u64],
+    cur: Current,
+    ids: &[u64],
+    states: &[u8],
+    out: &mut [u8],
+) -> Listed
+    ensures { λ r. ⌜ written (ofListed r) (now (out .exit)) ≡ scanVisibleCall (now (pool .entry)) st xmax (now (active .entry)) cur (now (ids .entry)) (now (states .entry)) (now (out .entry)) ⌝ }
+{
+    listed_of(scan_at(pool, st, xmax, active, cur, ids, states, out))
 }

@@ -1,9 +1,8 @@
--- `leaf::judge_cells` meets its contract. Assumes nothing.
+-- `leaf::judge_cells` meets its contract: the walk that is left gives what the whole walk gives. Assumes nothing.
 use Rattle.leaf.proofs.Walking.{walk, nothing, walk-bad, walk-in, walk-done, step-next, judged-ok, judged-bad}
 use native.Mathlib.Omega.{arith}
 use Prim.Native.Nat.{_≤_}
 use mathlib.Core.Path.{_≡_, refl, sym, _∙_}
--- `leaf::judge_cells` meets its contract: the walk that is left gives what the whole walk gives. Assumes nothing.
 use borrow.Author.Needs.{needs}
 use Rattle.leaf.proofs.judge_cells.Statement.{statement}
 use Rattle.leaf.proofs.judge_cells.Tie as tie

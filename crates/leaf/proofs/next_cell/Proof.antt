@@ -1,6 +1,5 @@
--- `leaf::next_cell` meets its contract. Assumes nothing.
-use Rattle.leaf.proofs.Walking.{step-bad, step-in, step-out}
 -- `leaf::next_cell` meets its contract: each way out is one law of Walking. Assumes nothing.
+use Rattle.leaf.proofs.Walking.{step-bad, step-in, step-out}
 use borrow.Author.Needs.{needs}
 use Rattle.leaf.proofs.next_cell.Statement.{statement}
 use Rattle.leaf.proofs.next_cell.Tie as tie

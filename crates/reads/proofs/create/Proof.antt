@@ -1,9 +1,8 @@
--- `reads::create` meets its contract. Assumes nothing.
+-- `reads::create` meets its contract: each way out is one law of Calls. Assumes nothing.
 use Rattle.reads.proofs.Calls.{create-bad, create-full, create-done}
 use Rattle.page.proofs.PoolLaws.{pool-is}
 use mathlib.Core.Path.{sym, _∙_}
 use native.Mathlib.Omega.{arith}
--- `reads::create` meets its contract: each way out is one law of Calls. Assumes nothing.
 use borrow.Author.Needs.{needs}
 use Rattle.reads.proofs.create.Statement.{statement}
 use Rattle.reads.proofs.create.Tie as tie

@@ -1,8 +1,7 @@
--- `reads::find` meets its contract. Assumes nothing.
+-- `reads::find` meets its contract: it is the lookup with the plain snapshot. Assumes nothing.
 use Rattle.reads.specs.Find.{findCall}
 use mir.Facts.{toZ-ofZ}
 use mathlib.Core.Path.{_∙_}
--- `reads::find` meets its contract: it is the lookup with the plain snapshot. Assumes nothing.
 use borrow.Author.Needs.{needs}
 use Rattle.reads.proofs.find.Statement.{statement}
 use Rattle.reads.proofs.find.Tie as tie

@@ -1,10 +1,9 @@
--- `tree::best_along` meets its contract. Assumes nothing.
+-- `tree::best_along` meets its contract: what is left of the walk gives what the whole walk gives. Assumes nothing.
 use Rattle.tree.proofs.Ways.{along-again, along-unused, along-bad, along-last, along-end, along-on, best-broken, best-stop, best-go}
 use Rattle.tree.specs.Chain.{along, lookBest, toldBest, bestAlong}
 use Rattle.leaf.specs.declared.find.Best.{Best}
 use Rattle.mvcc.specs.Lists.{lookup}
 use mathlib.Core.Path.{_≡_, refl, ap, _∙_}
--- `tree::best_along` meets its contract: what is left of the walk gives what the whole walk gives. Assumes nothing.
 use borrow.Author.Needs.{needs}
 use Rattle.tree.proofs.best_along.Statement.{statement}
 use Rattle.tree.proofs.best_along.Tie as tie

@@ -1,10 +1,9 @@
--- `tree::descend` meets its contract. Assumes nothing.
+-- `tree::descend` meets its contract: each way out is one law of Ways. Assumes nothing.
 use Rattle.tree.proofs.Ways.{inner-is, way-unused, way-leaf, way-deep, way-bad, way-on}
 use Rattle.tree.specs.Descend.{descendOf}
 use native.Mathlib.Omega.{arith}
 use Prim.Native.Nat.{_≤_}
 use mathlib.Core.Path.{_≡_, refl, _∙_}
--- `tree::descend` meets its contract: each way out is one law of Ways. Assumes nothing.
 use borrow.Author.Needs.{needs}
 use Rattle.tree.proofs.descend.Statement.{statement}
 use Rattle.tree.proofs.descend.Tie as tie

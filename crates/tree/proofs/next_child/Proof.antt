@@ -1,7 +1,6 @@
--- `tree::next_child` meets its contract. Assumes nothing.
+-- `tree::next_child` meets its contract: each way out is one law of Ways. Assumes nothing.
 use Rattle.tree.proofs.Ways.{child-search, child-insert, child-first}
 use native.Mathlib.Omega.{arith}
--- `tree::next_child` meets its contract: each way out is one law of Ways. Assumes nothing.
 use borrow.Author.Needs.{needs}
 use Rattle.tree.proofs.next_child.Statement.{statement}
 use Rattle.tree.proofs.next_child.Tie as tie

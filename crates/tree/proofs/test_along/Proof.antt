@@ -1,10 +1,9 @@
--- `tree::test_along` meets its contract. Assumes nothing.
+-- `tree::test_along` meets its contract: what is left of the walk gives what the whole walk gives. Assumes nothing.
 use Rattle.tree.proofs.Ways.{along-again, along-unused, along-bad, along-last, along-end, along-on, test-broken, test-stop, test-go}
 use Rattle.tree.specs.Chain.{along, lookTest, toldTest, testAlong}
 use mathlib.Core.Bool.{false}
 use Rattle.mvcc.specs.Lists.{lookup}
 use mathlib.Core.Path.{_≡_, refl, ap, _∙_}
--- `tree::test_along` meets its contract: what is left of the walk gives what the whole walk gives. Assumes nothing.
 use borrow.Author.Needs.{needs}
 use Rattle.tree.proofs.test_along.Statement.{statement}
 use Rattle.tree.proofs.test_along.Tie as tie

@@ -1,5 +1,5 @@
 -- `cases::case::read_case` is safe: the bytes that are read lie within their buffer.
-use Rattle.cases.proofs.Laws.{within-got}
+use Rattle.text.proofs.Laws.{within-got}
 use borrow.Author.Needs.{needs}
 use Rattle.cases.proofs.case.read_case.Statement.{statement}
 use Rattle.cases.proofs.case.read_case.Tie as tie
@@ -7,10 +7,10 @@ use Rattle.cases.proofs.case.read_case.Reads as reads
 use Rattle.cases.proofs.case.read_case.Lts as lts
 use Rattle.cases.proofs.case.compare.Reads as compare-reads
 use Rattle.cases.proofs.fields.answer.Reads as answer-reads
-use Rattle.cases.proofs.text.bytes.Reads as bytes-reads
-use Rattle.cases.proofs.text.field.Reads as field-reads
-use Rattle.cases.proofs.text.field_number.Reads as field-number-reads
-use Rattle.cases.proofs.text.rest.Reads as rest-reads
+use Rattle.text.proofs.bytes.Reads as bytes-reads
+use Rattle.text.proofs.field.Reads as field-reads
+use Rattle.text.proofs.field_number.Reads as field-number-reads
+use Rattle.text.proofs.rest.Reads as rest-reads
 use Rattle.row.proofs.read.read_cell.Reads as read-cell-reads
 
 field-requires : tie.Need-field-requires

@@ -1,16 +1,16 @@
 -- `cases::case::write_case` is safe: the data is as long as a version allows, and the cell fits its buffer.
 use native.Mathlib.Omega.{arith}
-use Rattle.cases.proofs.Laws.{within-got}
+use Rattle.text.proofs.Laws.{within-got}
 use borrow.Author.Needs.{needs}
 use Rattle.cases.proofs.case.write_case.Statement.{statement}
 use Rattle.cases.proofs.case.write_case.Tie as tie
 use Rattle.cases.proofs.case.write_case.Reads as reads
 use Rattle.cases.proofs.case.write_case.Lts as lts
 use Rattle.cases.proofs.case.writes.Reads as writes-reads
-use Rattle.cases.proofs.fields.head_of.Reads as head-of-reads
-use Rattle.cases.proofs.text.bytes.Reads as bytes-reads
-use Rattle.cases.proofs.text.field.Reads as field-reads
-use Rattle.cases.proofs.text.rest.Reads as rest-reads
+use Rattle.text.proofs.fields.head_of.Reads as head-of-reads
+use Rattle.text.proofs.bytes.Reads as bytes-reads
+use Rattle.text.proofs.field.Reads as field-reads
+use Rattle.text.proofs.rest.Reads as rest-reads
 
 rest-requires : tie.Need-rest-requires
 rest-requires c κs = search needs

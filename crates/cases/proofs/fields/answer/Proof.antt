@@ -1,15 +1,15 @@
 -- `cases::fields::answer` is safe: a kind fits 8 bits.
 use native.Mathlib.Omega.{arith}
-use Rattle.cases.proofs.Laws.{within-got}
+use Rattle.text.proofs.Laws.{within-got}
 use borrow.Author.Needs.{needs}
 use Rattle.cases.proofs.fields.answer.Statement.{statement}
 use Rattle.cases.proofs.fields.answer.Tie as tie
 use Rattle.cases.proofs.fields.answer.Reads as reads
 use Rattle.cases.proofs.fields.answer.Lts as lts
 use Rattle.cases.proofs.fields.cell.Reads as cell-reads
-use Rattle.cases.proofs.text.field.Reads as field-reads
-use Rattle.cases.proofs.text.number.Reads as number-reads
-use Rattle.cases.proofs.text.rest.Reads as rest-reads
+use Rattle.text.proofs.field.Reads as field-reads
+use Rattle.text.proofs.number.Reads as number-reads
+use Rattle.text.proofs.rest.Reads as rest-reads
 use Rattle.check.proofs.same.Reads as same-reads
 
 field-requires : tie.Need-field-requires

@@ -1,4 +1,5 @@
 -- `inner::edit::write_top` meets its contract. Assumes nothing.
+use mathlib.Core.Path.{_∙_}
 use Rattle.inner.specs.Edit.{topOf}
 use borrow.Author.Needs.{needs}
 use Rattle.inner.proofs.edit.write_top.Statement.{statement}
@@ -24,7 +25,7 @@ same-length c = search needs
 
 returns : tie.Need-returns
 unfolding topOf
-returns c = cc
+returns c = c .before .before .put322 .ensures ∙ rw (c .before .before .before .before .before .before .put-rank .ensures, c .before .before .before .before .before .before .before .before .before .before .put32 .ensures, c .before .before .before .before .before .before .before .before .before .before .before .before .before .before .set-cell-count .ensures, c .before .before .before .before .before .before .before .before .before .before .before .before .before .before .before .before .before .before .set-is-root .ensures)
 
 pub write-top-spec : {M : Type 1} → statement M
 write-top-spec =

@@ -1,4 +1,4 @@
--- `leaf::find::find_in_leaf` meets its contract. Assumes nothing.
+-- `leaf::find::find_in_leaf` meets its contract: the walk that is left gives what the whole walk gives. Assumes nothing.
 use Rattle.leaf.proofs.Finding.{newest-other, loop-type, loop-bad, loop-done}
 use Rattle.leaf.proofs.Walking.{walk, walk-bad, walk-in, walk-done, step-next}
 use Rattle.leaf.specs.declared.find.LeafBest.{LeafBest}
@@ -8,7 +8,6 @@ use native.Mathlib.Omega.{arith}
 use Prim.Native.Nat.{_≤_}
 use mathlib.Core.Logic.{⊎-elim}
 use mathlib.Core.Path.{_≡_, refl, sym, _∙_}
--- `leaf::find::find_in_leaf` meets its contract: the walk that is left gives what the whole walk gives. Assumes nothing.
 use borrow.Author.Needs.{needs}
 use Rattle.leaf.proofs.find.find_in_leaf.Statement.{statement}
 use Rattle.leaf.proofs.find.find_in_leaf.Tie as tie

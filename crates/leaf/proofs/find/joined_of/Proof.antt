@@ -1,6 +1,5 @@
--- `leaf::find::joined_of` meets its contract. Assumes nothing.
-use Rattle.leaf.proofs.Finding.{joined-found, joined-other, joined-claim, joined-ported}
 -- `leaf::find::joined_of` meets its contract: each way out is one law of Finding. Assumes nothing.
+use Rattle.leaf.proofs.Finding.{joined-found, joined-other, joined-claim, joined-ported}
 use borrow.Author.Needs.{needs}
 use Rattle.leaf.proofs.find.joined_of.Statement.{statement}
 use Rattle.leaf.proofs.find.joined_of.Tie as tie

@@ -1,6 +1,5 @@
--- `leaf::find::later_of` meets its contract. Assumes nothing.
-use Rattle.leaf.proofs.Finding.{later-first, later-old, later-new}
 -- `leaf::find::later_of` meets its contract: each way out is one law of Finding. Assumes nothing.
+use Rattle.leaf.proofs.Finding.{later-first, later-old, later-new}
 use borrow.Author.Needs.{needs}
 use Rattle.leaf.proofs.find.later_of.Statement.{statement}
 use Rattle.leaf.proofs.find.later_of.Tie as tie

@@ -1,6 +1,5 @@
--- `leaf::find::newest_of` meets its contract. Assumes nothing.
-use Rattle.leaf.proofs.Finding.{newest-other, newest-seen, newest-unseen}
 -- `leaf::find::newest_of` meets its contract: each way out is one law of Finding. Assumes nothing.
+use Rattle.leaf.proofs.Finding.{newest-other, newest-seen, newest-unseen}
 use borrow.Author.Needs.{needs}
 use Rattle.leaf.proofs.find.newest_of.Statement.{statement}
 use Rattle.leaf.proofs.find.newest_of.Tie as tie

@@ -1,4 +1,4 @@
--- `leaf::find::run_in_leaf` meets its contract. Assumes nothing.
+-- `leaf::find::run_in_leaf` meets its contract: the walk that is left gives what the whole walk gives. Assumes nothing.
 use Rattle.leaf.proofs.Finding.{loop-type, loop-bad, loop-done, running-count}
 use Rattle.leaf.proofs.Walking.{walk, walk-bad, walk-in, walk-done, step-next}
 use Rattle.leaf.specs.declared.find.LeafRun.{LeafRun}
@@ -7,7 +7,6 @@ use Prim.Native.Nat.{_+_}
 use native.Mathlib.Omega.{arith}
 use Prim.Native.Nat.{_≤_}
 use mathlib.Core.Path.{_≡_, refl, sym, _∙_}
--- `leaf::find::run_in_leaf` meets its contract: the walk that is left gives what the whole walk gives. Assumes nothing.
 use borrow.Author.Needs.{needs}
 use Rattle.leaf.proofs.find.run_in_leaf.Statement.{statement}
 use Rattle.leaf.proofs.find.run_in_leaf.Tie as tie

@@ -1,6 +1,5 @@
--- `leaf::find::running_of` meets its contract. Assumes nothing.
-use Rattle.leaf.proofs.Finding.{running-below, running-same, running-above}
 -- `leaf::find::running_of` meets its contract: each way out is one law of Finding. Assumes nothing.
+use Rattle.leaf.proofs.Finding.{running-below, running-same, running-above}
 use borrow.Author.Needs.{needs}
 use Rattle.leaf.proofs.find.running_of.Statement.{statement}
 use Rattle.leaf.proofs.find.running_of.Tie as tie

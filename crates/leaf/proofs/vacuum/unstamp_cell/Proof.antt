@@ -1,5 +1,5 @@
 -- `leaf::vacuum::unstamp_cell` meets its contract: a gap closed and two fields stored. Assumes nothing.
-use mathlib.Core.Path.{refl}
+use mathlib.Core.Path.{refl, _∙_}
 use denote.Ref.{now}
 use native.Mathlib.Omega.{arith}
 use Rattle.leaf.proofs.Sweeping.{stamped-long, stamp-off}
@@ -71,7 +71,7 @@ returns : tie.Need-returns
 returns c =
     let k = c .before .before .before .before .before .before .before .before .before .before .before .before .before in
     let w = stamped-long (k .before .args .c) (now (k .before .args .pg)) (λ i. (k .slice-known .given i) .fits) (k .before .pre .1) (k .before .pre .5) in
-    cc (stamp-off (k .before .args .c) (now (k .before .args .pg)) (λ i. (k .slice-known .given i) .fits) (k .before .pre .1) (k .before .pre .5) (k .before .args .e) _ (omega arith) (omega arith) (omega arith) refl)
+    c .before .before .put8 .ensures ∙ rw (c .before .before .before .before .before .before .put32 .ensures, c .before .before .before .before .before .before .before .before .before .before .open-gap .ensures) (stamp-off (k .before .args .c) (now (k .before .args .pg)) (λ i. (k .slice-known .given i) .fits) (k .before .pre .1) (k .before .pre .5) (k .before .args .e) _ (omega arith) (omega arith) (omega arith) refl)
 
 pub unstamp-cell-spec : {M : Type 1} → statement M
 unstamp-cell-spec =

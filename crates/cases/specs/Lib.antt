@@ -1,2 +1,0 @@
--- What the contracts of `cases` cite.
-pub mod Within

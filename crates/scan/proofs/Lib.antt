@@ -1,0 +1,16 @@
+pub mod Waiting
+pub mod Stepping
+pub mod Writing
+pub mod Passing
+pub mod Ending
+pub mod Beside
+pub mod Choosing
+pub mod Standing
+pub mod Measuring
+pub mod Pushing
+pub mod Listing
+pub mod Ranging
+pub mod Slowness
+pub mod Lessening
+pub mod Slowing
+pub mod Fitting
