@@ -3,7 +3,7 @@ use crate::call::{Call, Given, Outcome, ours};
 use crate::rule;
 use std::fmt::Debug;
 use std::hint::black_box;
-use std::sync::atomic::{AtomicU64, Ordering::Relaxed};
+use std::sync::atomic::{AtomicBool, AtomicU64, Ordering::Relaxed};
 use std::time::Duration;
 use wire::text::hex;
 
@@ -39,6 +39,16 @@ pub struct Tally {
 fn shown(o: &Outcome) -> String {
     let start = &o.out[..o.out.len().min(64)];
     format!("{} {:x?} {}..", o.number, o.words, hex(start))
+}
+
+/// Keeps the pool of the first difference in a file.
+fn saved(pool: &[u8]) -> String {
+    static SAVED: AtomicBool = AtomicBool::new(false);
+    let place = std::env::temp_dir().join("erbulonge-differs.pool");
+    if SAVED.swap(true, Relaxed) || std::fs::write(&place, pool).is_err() {
+        return String::new();
+    }
+    format!(", its bytes are in {}", place.display())
 }
 
 impl Tally {
@@ -89,15 +99,11 @@ impl Tally {
         let known = call.numbers().contains(&got.number);
         self.answers[got.number.min(12) as usize] += 1;
         self.judge(got == *expected && kept && known, || {
-            let (state, lists) = (given.state, given.lists);
-            let place = std::env::temp_dir().join("erbulonge-differs.pool");
-            let saved = std::fs::write(&place, &before).is_ok();
+            let (state, lists, room) = (given.state, given.lists, given.room);
+            let saved = saved(&before);
+            let (got, expected) = (shown(&got), shown(expected));
             format!(
-                "{call:?} {state:?} {lists:?} room {}\n  pool kept {kept}, bytes in {} {saved}\n  ours     {}\n  expected {}",
-                given.room,
-                place.display(),
-                shown(&got),
-                shown(expected)
+                "{call:?} {state:?} {lists:?} room {room}\n  pool kept {kept}{saved}\n  ours     {got}\n  expected {expected}"
             )
         });
         got
