@@ -1,11 +1,11 @@
 -- What the stores of an answer leave in the lent words, and what each call then gives. Assumes nothing.
-use mathlib.Core.Path.{_≡_, refl, sym, ap, _∙_}
+use mathlib.Core.Path.{_≡_, refl, ap, _∙_}
 use mathlib.Core.Bool.{Bool, true, false}
 use mathlib.Core.List.{List, [], _∷_, _++_, append-assoc}
-use Prim.Native.Nat.{ℕ, suc, _+_, _≤_, _<_}
+use Prim.Native.Nat.{ℕ, _+_, _<_}
 use native.Mathlib.Numerals.{add-one}
 use native.Mathlib.Omega.{arith}
-use lib.ListN.{length, take, drop, set, length-append}
+use lib.ListN.{length, set, length-append}
 use lib.Seq.{set-split}
 use Rattle.store.specs.Part.{put}
 use Rattle.store.specs.Pick.{pick}
@@ -15,29 +15,33 @@ use Rattle.row.specs.declared.Stamp.{Stamp}
 use Rattle.row.specs.declared.Pointer.{Pointer}
 use Rattle.row.specs.declared.Version.{Version}
 use Rattle.mvcc.specs.declared.Current.{Current}
-use Rattle.reads.specs.Answer.{Outcome, ofCreated, ofFound, ofTold}
+use Rattle.listing.specs.Listed.{Written, written}
+use Rattle.reads.specs.Answer.{Outcome, ofCreated, ofFound, ofTold, ofListed}
 use Rattle.reads.specs.Find.{findVisibleCall, findCall}
 use Rattle.reads.specs.Conflict.{conflictCall}
+use Rattle.reads.specs.Listings.{versionsOfCall}
+use Rattle.reads.specs.Scan.{scanVisibleCall}
 use Rattle.reads.specs.declared.Created.{Created}
 use Rattle.reads.specs.declared.Found.{Found}
 use Rattle.reads.specs.declared.Told.{Told}
-use Rattle.port.specs.Words.{currentOf, stampWords, pointerWords, versionWords, stateWords, flagWords, Called, called, given}
+use Rattle.reads.specs.declared.Listed.{Listed}
+use Rattle.port.specs.Words.{currentOf, stampWords, pointerWords, versionWords, stateWords, flagWords, countWords, Called, called, given, calledList, givenList}
 
 -- ---- stores of words
 
-pub set-put : (i v : ℕ) (s : List ℕ) → i < length s → set s i v ≡ put i (v ∷ []) s
+set-put : (i v : ℕ) (s : List ℕ) → i < length s → set s i v ≡ put i (v ∷ []) s
 set-put i v s h = set-split s i v h ∙ rw (put-def, add-one)
 
 -- a word right after those stored
-pub set-after : (a i v : ℕ) (x s : List ℕ) → i ≡ a + length x → i < length s → set (put a x s) i v ≡ put a (x ++ (v ∷ [])) s
+set-after : (a i v : ℕ) (x s : List ℕ) → i ≡ a + length x → i < length s → set (put a x s) i v ≡ put a (x ++ (v ∷ [])) s
 set-after a i v x s e h =
     let l : length (put a x s) ≡ length s = length-put a x s (omega arith) in
     set-put i v (put a x s) (omega arith) ∙ put-after-at a i x (v ∷ []) s (omega arith) e
 
-pub two-words : (i j v w : ℕ) (s : List ℕ) → j ≡ i + 1 → j < length s → set (set s i v) j w ≡ put i (v ∷ w ∷ []) s
+two-words : (i j v w : ℕ) (s : List ℕ) → j ≡ i + 1 → j < length s → set (set s i v) j w ≡ put i (v ∷ w ∷ []) s
 two-words i j v w s e h = rw (set-put i v s (omega arith)) (set-after i j w (v ∷ []) s e h)
 
-pub three-words : (i j k u v w : ℕ) (s : List ℕ) → j ≡ i + 1 → k ≡ i + 2 → k < length s → set (set (set s i u) j v) k w ≡ put i (u ∷ v ∷ w ∷ []) s
+three-words : (i j k u v w : ℕ) (s : List ℕ) → j ≡ i + 1 → k ≡ i + 2 → k < length s → set (set (set s i u) j v) k w ≡ put i (u ∷ v ∷ w ∷ []) s
 three-words i j k u v w s e f h = rw (two-words i j u v s e (omega arith)) (set-after i k w (u ∷ v ∷ []) s f h)
 
 -- ---- a current transaction
@@ -118,9 +122,20 @@ module _ (s : List ℕ) where
   pub created-done : {r : Created} {st : State} → length s ≡ 8 → r ≡ Created.Done st → called 0 (set (set s 0 (st .root)) 1 (st .used)) ≡ given stateWords (ofCreated r) s
   created-done {r} {st} h e = rw (e, two-words 0 1 (st .root) (st .used) s refl (omega arith))
 
+  pub listed-refused : {r : Listed} {n : ℕ} → r ≡ Listed.Refused n → called n s ≡ given countWords (ofListed r) s
+  listed-refused e = rw e
+
+  pub listed-done : {r : Listed} {n : ℕ} → length s ≡ 8 → r ≡ Listed.Done n → called 0 (set s 0 n) ≡ given countWords (ofListed r) s
+  listed-done {r} {n} h e = rw (e, set-put 0 n s (omega arith))
+
 -- the outcome that was given is the outcome of the definition
 pub passed : {A : Type 0} (w : A → List ℕ) {o p : Outcome A} {x : Called} (old : List ℕ) → x ≡ given w o old → o ≡ p → x ≡ given w p old
 passed w old e q = e ∙ rw q
+
+-- the same of a listing, with the output that it left
+pub passed-list : {o : Outcome ℕ} {w : Written (Outcome ℕ)} {n : ℕ} {t out : List ℕ} (old : List ℕ) → called n t ≡ given countWords o old → written o out ≡ w
+    → calledList n t out ≡ givenList w old
+passed-list {o} {w} {n} {t} {out} old e q = ap (λ (x : Called). calledList (x .number) (x .words) out) e ∙ ap (λ (x : Written (Outcome ℕ)). givenList x old) q
 
 -- ---- a call asked with an equal key and an equal current transaction
 
@@ -133,3 +148,11 @@ module _ (s : List ℕ) (st : State) {k l : ℕ} {x y : Current} (key : k ≡ l)
 
   pub conflict-asked : (seen xmax : ℕ) (active : List ℕ) → conflictCall s st k seen xmax active x ≡ conflictCall s st l seen xmax active y
   conflict-asked seen xmax active = rw (key, cur)
+
+module _ (s : List ℕ) (st : State) (out : List ℕ) where
+  pub versions-asked : {k l : ℕ} → k ≡ l → versionsOfCall s st k out ≡ versionsOfCall s st l out
+  versions-asked key = rw key
+
+  pub scan-asked : {x y : Current} (xmax : ℕ) (active ids states : List ℕ) → x ≡ y
+      → scanVisibleCall s st xmax active x ids states out ≡ scanVisibleCall s st xmax active y ids states out
+  scan-asked xmax active ids states cur = rw cur

@@ -10,6 +10,7 @@ use Rattle.row.specs.declared.Stamp.{Stamp}
 use Rattle.row.specs.declared.Pointer.{Pointer}
 use Rattle.row.specs.declared.Version.{Version}
 use Rattle.mvcc.specs.declared.Current.{Current}
+use Rattle.listing.specs.Listed.{Written}
 use Rattle.reads.specs.Answer.{Outcome, Value, value, nothing}
 
 -- a state goes in as two numbers, a current transaction as a flag and a number
@@ -56,3 +57,15 @@ wordsOf w old nothing = old
 
 abbrev pub given : {A : Type 0} → (A → List ℕ) → Outcome A → (old : List ℕ) → Called
 given w o old = called (o .number) (wordsOf w old (o .gives))
+
+-- what comes back of a listing: also the output, whose bytes the first word counts
+pub record CalledList : Type 0 where
+  pub number : ℕ
+  pub words : List ℕ
+  pub output : List ℕ
+
+abbrev pub calledList : ℕ → List ℕ → List ℕ → CalledList
+calledList n ws out = record { number = n; words = ws; output = out }
+
+abbrev pub givenList : Written (Outcome ℕ) → (old : List ℕ) → CalledList
+givenList w old = calledList (w .answer .number) (wordsOf countWords old (w .answer .gives)) (w .output)

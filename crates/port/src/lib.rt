@@ -1,19 +1,24 @@
 // What the booking server calls in-process (document 01, sections 6 and 9): numbers and slices in, the answer's number
-// back, what Done gives as words at the start of a lent array. Each call is the one of `reads` that it names.
+// back, what Done gives as words at the start of a lent array, a listing in a lent output. Each call is the one of `reads`
+// that it names.
 ghost use mathlib.Core.Path.{_≡_};
 ghost use lib.ListN.{length};
 ghost use Rattle.store.specs.Part.{put};
 ghost use Rattle.page.specs.Key.{rankOf};
-ghost use Rattle.reads.specs.Answer.{ofCreated, ofFound, ofTold};
+ghost use Rattle.reads.specs.Answer.{ofCreated, ofFound, ofTold, ofListed};
 ghost use Rattle.reads.specs.Check.{checkCall};
 ghost use Rattle.reads.specs.Conflict.{conflictCall};
 ghost use Rattle.reads.specs.Create.{createCall, createAfter};
 ghost use Rattle.reads.specs.Find.{findVisibleCall, findCall};
-ghost use Rattle.port.specs.Words.{stateOf, currentOf, stampWords, pointerWords, versionWords, stateWords, flagWords, called, given};
+ghost use Rattle.reads.specs.Listings.{versionsOfCall, allVersionsCall};
+ghost use Rattle.reads.specs.Numbers.{pageNumbersCall};
+ghost use Rattle.reads.specs.Scan.{scanVisibleCall};
+ghost use Rattle.port.specs.Words.{stateOf, currentOf, stampWords, pointerWords, versionWords, stateWords, flagWords, countWords, called, given, calledList, givenList};
 use mvcc::Current;
 use page::pool::State;
 use reads::Created;
 use reads::Found;
+use reads::Listed;
 use reads::Told;
 use row::Pointer;
 use row::Stamp;
@@ -115,6 +120,19 @@ fn give_created(answer: &mut [u64], r: Created) -> u8
     }
 }
 
+fn give_listed(answer: &mut [u64], r: Listed) -> u8
+    requires { ⌜ length (now answer) ≡ 8 ⌝ }
+    ensures { λ n. ⌜ called n (now (answer .exit)) ≡ given countWords (ofListed r) (now (answer .entry)) ⌝ }
+{
+    match r {
+        Listed::Refused(n) => n,
+        Listed::Done(len) => {
+            answer[0] = len as u64;
+            0
+        }
+    }
+}
+
 #[no_mangle]
 pub extern "C" fn erbulonge_create(
     pool: &mut [u8],
@@ -199,4 +217,71 @@ pub extern "C" fn erbulonge_has_write_conflict(
         answer,
         reads::has_write_conflict(pool, st, key, seen, xmax, active, cur),
     )
+}
+
+#[no_mangle]
+pub extern "C" fn erbulonge_versions_of(
+    pool: &[u8],
+    root: u32,
+    used: u32,
+    key: i32,
+    out: &mut [u8],
+    answer: &mut [u64; 8],
+) -> u8
+    ensures { λ n. ⌜ calledList n (now (answer .exit)) (now (out .exit)) ≡ givenList (versionsOfCall (now (pool .entry)) (stateOf root used) (rankOf key) (now (out .entry))) (now (answer .entry)) ⌝ }
+{
+    let st = State { root, used };
+    give_listed(answer, reads::versions_of(pool, st, key, out))
+}
+
+#[no_mangle]
+pub extern "C" fn erbulonge_all_versions(
+    pool: &[u8],
+    root: u32,
+    used: u32,
+    out: &mut [u8],
+    answer: &mut [u64; 8],
+) -> u8
+    ensures { λ n. ⌜ calledList n (now (answer .exit)) (now (out .exit)) ≡ givenList (allVersionsCall (now (pool .entry)) (stateOf root used) (now (out .entry))) (now (answer .entry)) ⌝ }
+{
+    let st = State { root, used };
+    give_listed(answer, reads::all_versions(pool, st, out))
+}
+
+#[no_mangle]
+pub extern "C" fn erbulonge_scan_visible(
+    pool: &[u8],
+    root: u32,
+    used: u32,
+    xmax: u64,
+    active: &[u64],
+    has_current: bool,
+    current: u64,
+    ids: &[u64],
+    states: &[u8],
+    out: &mut [u8],
+    answer: &mut [u64; 8],
+) -> u8
+    ensures { λ n. ⌜ calledList n (now (answer .exit)) (now (out .exit)) ≡ givenList (scanVisibleCall (now (pool .entry)) (stateOf root used) xmax (now (active .entry)) (currentOf «has_current» current) (now (ids .entry)) (now (states .entry)) (now (out .entry))) (now (answer .entry)) ⌝ }
+{
+    let st = State { root, used };
+    let cur = current_of(has_current, current);
+    give_listed(
+        answer,
+        reads::scan_visible(pool, st, xmax, active, cur, ids, states, out),
+    )
+}
+
+#[no_mangle]
+pub extern "C" fn erbulonge_page_numbers(
+    pool: &[u8],
+    root: u32,
+    used: u32,
+    out: &mut [u8],
+    answer: &mut [u64; 8],
+) -> u8
+    ensures { λ n. ⌜ calledList n (now (answer .exit)) (now (out .exit)) ≡ givenList (pageNumbersCall (now (pool .entry)) (stateOf root used) (now (out .entry))) (now (answer .entry)) ⌝ }
+{
+    let st = State { root, used };
+    give_listed(answer, reads::page_numbers(pool, st, out))
 }
