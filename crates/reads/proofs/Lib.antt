@@ -3,3 +3,4 @@ pub mod Answers
 pub mod Calls
 pub mod ListCalls
 pub mod ScanCalls
+pub mod Emptiness

@@ -8,3 +8,4 @@ pub mod Check
 pub mod Listings
 pub mod Numbers
 pub mod Scan
+pub mod Facts

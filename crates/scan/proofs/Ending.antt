@@ -19,7 +19,7 @@ use Rattle.listing.specs.Records.{records}
 use Rattle.listing.specs.Listed.{Written, written, fitted}
 use Rattle.listing.specs.declared.Listing.{Listing}
 use Rattle.scan.specs.Visible.{chainRows, scanRows, listedVisible, scanTree}
-use Rattle.scan.specs.Fast.{Pass, fullSize, passAlong, passBytes, scanAlong, Fits, Whole}
+use Rattle.scan.specs.Fast.{fullSize, passAlong, passBytes, scanAlong, Fits, Whole}
 use Rattle.scan.specs.Slow.{slowBytes}
 use Rattle.scan.specs.ScanFacts.{FastIs}
 use Rattle.scan.specs.declared.Scan.{Scan}

@@ -3,9 +3,8 @@
 use mathlib.Core.Path.{_≡_, refl, sym, _∙_, subst}
 use mathlib.Core.Bool.{Bool, true, false}
 use mathlib.Core.List.{List, [], _∷_, _++_, map}
-use Prim.Native.Nat.{ℕ, zero, suc, _+_, _*_, _≤_, _<_}
+use Prim.Native.Nat.{ℕ, zero, suc, _+_, _*_, _-_, _≤_, _<_}
 use native.Mathlib.Omega.{arith}
-use lib.Dec.{ltb, eqb}
 use lib.ListN.{length, length-append}
 use Rattle.store.specs.Pick.{pick}
 use Rattle.page.specs.Page.{page}
@@ -20,15 +19,15 @@ use Rattle.mvcc.specs.declared.Current.{Current}
 use Rattle.leaf.specs.Cells.{onCell, cellsOf, cells, foldCells, judgeLeaf, onJudged}
 use Rattle.leaf.specs.Rows.{Row, rowOf, rowsOf, rows}
 use Rattle.leaf.specs.declared.Judged.{Judged}
-use Rattle.leaf.specs.declared.find.Best.{Best}
 use Rattle.tree.specs.Chain.{go, broken, Told, ok, ill, along}
 use Rattle.scan.specs.Visible.{lookAll, chainRows}
-use Rattle.scan.specs.Fast.{spanOf, choose, stepFrom, scanned, scanLeaf, seenScan, lookScan, toldScan, startScan, scanAlong, Whole, Waits}
+use Rattle.scan.specs.Fast.{stepFrom, scanned, scanLeaf, seenScan, lookScan, toldScan, startScan, scanAlong, Whole, Waits}
 use Rattle.scan.specs.declared.Scan.{Scan}
 use Rattle.scan.specs.declared.LeafScan.{LeafScan}
 use Rattle.scan.specs.declared.ChainScan.{ChainScan}
 use Rattle.scan.proofs.Beside.{Alike, Judging, in-step, fold-rows, rows-beside}
-use Rattle.scan.proofs.Standing.{span-small, waits-whole}
+use Rattle.scan.proofs.Standing.{waits-whole}
+use Rattle.scan.proofs.Stepping.{step-best, step-more}
 
 -- ---- rows are few
 
@@ -69,23 +68,12 @@ measured-more : (used : ℕ) (s : List ℕ) (n m : ℕ) (sc : Scan) → n ≤ m 
 measured-more used s n m sc h k = record { waits = k .waits; small = omega (arith, k .small) }
 
 module _ (used : ℕ) (s : List ℕ) (n p : ℕ) (x : Cell) (h : p < used) (here : cellAt (page p s) (x .at) ≡ CellRead.Got x) where
-  step-measured : (best : Best) (size : ℕ) (falls : Bool) → Measured used s n (record { best = best; size = size; falls = falls })
-      → Measured used s (n + 1) (stepFrom best p (record { best = best; size = size; falls = falls }) x)
-  step-measured Best.Nothing size falls k = record { waits = (h, here); small = omega (arith, k .small) }
-  step-measured (Best.At q o) size falls k = by-order (ltb (x .key) (o .key)) (eqb (x .key) (o .key)) (ltb (o .version .creator) (x .version .creator))
-    where
-      old : Scan
-      old = record { best = Best.At q o; size = size; falls = falls }
-
-      by-order : (a b d : Bool)
-          → Measured used s (n + 1)
-          (pick a (record { best = Best.At q o; size = size; falls = true })
-          (pick b (pick d (choose old p x) old)
-          (record { best = Best.At p x; size = size + (6 + spanOf o); falls = falls })))
-      by-order true b d = record { waits = k .waits; small = omega (arith, k .small) }
-      by-order false true true = record { waits = (h, here); small = omega (arith, k .small) }
-      by-order false true false = record { waits = k .waits; small = omega (arith, k .small) }
-      by-order false false d = record { waits = (h, here); small = omega (arith, k .small, span-small q o s (k .waits .1)) }
+  step-measured : (sc : Scan) → Measured used s n sc → Measured used s (n + 1) (stepFrom (sc .best) p sc x)
+  step-measured sc k =
+      record {
+        waits = step-best p sc x (λ b. Waits used b s) (sc .best) (k .waits) (h, here);
+        small = omega (arith, k .small, step-more p sc x (sc .best) (waits-whole used (sc .best) s (k .waits)));
+      }
 
 module _ (st : ℕ → ℕ) (active : List ℕ) (xmax : ℕ) (cur : Current) (s : List ℕ) where
   -- the walk judges, and scans the cells
@@ -113,7 +101,7 @@ module _ (st : ℕ → ℕ) (active : List ℕ) (xmax : ℕ) (cur : Current) (s 
         (by-seen (visible st active xmax cur (c .version .creator) (c .version .stamp)))
       where
         by-seen : (b : Bool) → Measured used s (n + length rs + 1) (pick b (stepFrom (sc .best) p sc c) sc)
-        by-seen true = step-measured used s (n + length rs) p c h e (sc .best) (sc .size) (sc .falls) k
+        by-seen true = step-measured used s (n + length rs) p c h e sc k
         by-seen false = measured-more used s (n + length rs) (n + length rs + 1) sc (omega arith) k
 
     -- and the fault is the chain's
@@ -162,3 +150,13 @@ module _ (st : ℕ → ℕ) (active : List ℕ) (xmax : ℕ) (cur : Current) (s 
         by-judged : (j : Judged) → onJudged (λ i. LeafScan.Ok after) (λ f. LeafScan.Bad f) j ≡ LeafScan.Ok d → Measured used s (n + 256) d
         by-judged (Judged.Ok i) u = let same : after ≡ d = cc in subst (Measured used s (n + 256)) same few
         by-judged (Judged.Bad f) u = absurd (let z : _≡_ {A = ℕ} 0 1 = cc in omega arith)
+
+-- m pages were left before the leaf
+pub leaf-on : (st : ℕ → ℕ) (active : List ℕ) (xmax : ℕ) (cur : Current) (s : List ℕ) (used p m : ℕ) (sc : Scan) {pg : List ℕ} {r : LeafScan} {d : Scan} → 0 < m → m ≤ used
+    → p < used → pg ≡ page p s → r ≡ scanLeaf st active xmax cur p sc pg → r ≡ LeafScan.Ok d → Measured used s ((used - m) * 256) sc → Measured used s ((used - (m - 1)) * 256) d
+leaf-on st active xmax cur s used p m sc {pg} {r} {d} z l h here e q k =
+    let n : (used - m) * 256 + 256 ≡ (used - (m - 1)) * 256 = omega arith in
+    rw n at (leaf-measured st active xmax cur s used p ((used - m) * 256) sc h (rw here at e) q k)
+
+pub measured-whole : (used : ℕ) (s : List ℕ) (n : ℕ) (sc : Scan) → Measured used s n sc → Whole (sc .best)
+measured-whole used s n sc k = waits-whole used (sc .best) s (k .waits)

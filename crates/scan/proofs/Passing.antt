@@ -121,7 +121,7 @@ module _ (st : ℕ → ℕ) (active : List ℕ) (xmax : ℕ) (cur : Current) (us
           over (suc k) l u = omega arith
 
       -- the output has its length
-      pub passing-long : length out ≡ length out₀
+      passing-long : length out ≡ length out₀
       passing-long = ap length (w .so-far) ∙ length-put 0 (w .bytes) out₀ (omega (arith, leaf .grows, whole, fits .room))
 
       pub passing-room : sc .size + length (pushedAll st active xmax cur p sc (cells (page p s)) s) ≤ length out

@@ -2,13 +2,12 @@
 use mathlib.Core.Path.{_≡_, refl, sym, ap, _∙_}
 use mathlib.Core.Bool.{Bool, true, false}
 use mathlib.Core.List.{List}
-use Prim.Native.Nat.{ℕ, _+_, _*_, _-_, _≤_, _<_}
+use Prim.Native.Nat.{ℕ, _+_, _≤_, _<_}
 use native.Mathlib.Omega.{arith}
 use borrow.Author.Tests.{lt-ltb, le-ltb, eq-eqb, ne-eqb}
 use lib.Dec.{ltb, eqb}
 use lib.ListN.{length}
 use Rattle.store.specs.Pick.{pick}
-use Rattle.page.specs.Page.{page}
 use Rattle.row.specs.declared.Cell.{Cell}
 use Rattle.row.specs.declared.Fault.{Fault}
 use Rattle.row.proofs.Exact.{cell-placed}
@@ -19,11 +18,9 @@ use Rattle.leaf.specs.declared.Step.{Step}
 use Rattle.leaf.proofs.Walking.{step-cell}
 use Rattle.leaf.specs.declared.find.Best.{Best}
 use Rattle.tree.specs.Chain.{go, broken}
-use Rattle.scan.specs.Fast.{spanOf, choose, stepFrom, scanned, scanLeaf, seenScan, waitSize, fullSize, Whole}
+use Rattle.scan.specs.Fast.{spanOf, choose, stepFrom, scanned, seenScan, fullSize, Whole}
 use Rattle.scan.specs.declared.Scan.{Scan}
 use Rattle.scan.specs.declared.LeafScan.{LeafScan}
-use Rattle.scan.proofs.Standing.{waits-whole}
-use Rattle.scan.proofs.Measuring.{Measured, leaf-measured}
 
 -- ---- the ways out
 
@@ -97,28 +94,28 @@ step-best p sc x P (Best.At q o) old new = by-tests (ltb (x .key) (o .key)) (eqb
     by-tests false true false = old
     by-tests false false d = new
 
-module _ (p : ℕ) (sc : Scan) (x : Cell) (low : x .at ≤ x .next) (high : x .next ≤ 4096) where
-  step-more : (best : Best) → Whole best → stepFrom best p sc x .size ≤ sc .size + 4102
-  step-more Best.Nothing w = omega arith
-  step-more (Best.At q o) w = by-tests (ltb (x .key) (o .key)) (eqb (x .key) (o .key)) (ltb (o .version .creator) (x .version .creator))
-    where
-      by-tests : (a b d : Bool)
-          → pick a (record { best = sc .best; size = sc .size; falls = true })
-          (pick b (pick d (choose sc p x) sc)
-          (record { best = Best.At p x; size = sc .size + (6 + spanOf o); falls = sc .falls }))
-          .size
-          ≤ sc .size + 4102
-      by-tests true b d = omega arith
-      by-tests false true true = omega arith
-      by-tests false true false = omega arith
-      by-tests false false d = let n = span-few (Best.At q o) refl w refl in omega (arith, n)
+pub step-more : (p : ℕ) (sc : Scan) (x : Cell) (best : Best) → Whole best → stepFrom best p sc x .size ≤ sc .size + 4102
+step-more p sc x Best.Nothing w = omega arith
+step-more p sc x (Best.At q o) w = by-tests (ltb (x .key) (o .key)) (eqb (x .key) (o .key)) (ltb (o .version .creator) (x .version .creator))
+  where
+    by-tests : (a b d : Bool)
+        → pick a (record { best = sc .best; size = sc .size; falls = true })
+        (pick b (pick d (choose sc p x) sc)
+        (record { best = Best.At p x; size = sc .size + (6 + spanOf o); falls = sc .falls }))
+        .size
+        ≤ sc .size + 4102
+    by-tests true b d = omega arith
+    by-tests false true true = omega arith
+    by-tests false true false = omega arith
+    by-tests false false d = let n = span-few (Best.At q o) refl w refl in omega (arith, n)
 
+module _ (p : ℕ) (sc : Scan) (x : Cell) (low : x .at ≤ x .next) (high : x .next ≤ 4096) where
   pub scanned-grown : (st : ℕ → ℕ) (active : List ℕ) (xmax : ℕ) (cur : Current) {r : Scan} → Whole (sc .best) → r ≡ scanned st active xmax cur p sc x → Grown sc r
   unfolding scanned
   scanned-grown st active xmax cur {r} w e = rw e (by-seen (visible st active xmax cur (x .version .creator) (x .version .stamp)))
     where
       by-seen : (b : Bool) → Grown sc (pick b (stepFrom (sc .best) p sc x) sc)
-      by-seen true = record { whole = step-best p sc x Whole (sc .best) w (low, high); more = step-more (sc .best) w }
+      by-seen true = record { whole = step-best p sc x Whole (sc .best) w (low, high); more = step-more p sc x (sc .best) w }
       by-seen false = record { whole = w; more = omega arith }
 
 -- the same at the step of a loop over the leaf
@@ -139,13 +136,3 @@ module _ {r x : LeafScan} (said : r ≡ x) where
 
   pub scan-go : {sc : Scan} → r ≡ LeafScan.Ok sc → seenScan x ≡ go sc
   scan-go e = ap seenScan (sym said ∙ e)
-
--- m pages were left before the leaf
-pub leaf-on : (st : ℕ → ℕ) (active : List ℕ) (xmax : ℕ) (cur : Current) (s : List ℕ) (used p m : ℕ) (sc : Scan) {pg : List ℕ} {r : LeafScan} {d : Scan} → 0 < m → m ≤ used
-    → p < used → pg ≡ page p s → r ≡ scanLeaf st active xmax cur p sc pg → r ≡ LeafScan.Ok d → Measured used s ((used - m) * 256) sc → Measured used s ((used - (m - 1)) * 256) d
-leaf-on st active xmax cur s used p m sc {pg} {r} {d} z l h here e q k =
-    let n : (used - m) * 256 + 256 ≡ (used - (m - 1)) * 256 = omega arith in
-    rw n at (leaf-measured st active xmax cur s used p ((used - m) * 256) sc h (rw here at e) q k)
-
-pub measured-whole : (used : ℕ) (s : List ℕ) (n : ℕ) (sc : Scan) → Measured used s n sc → Whole (sc .best)
-measured-whole used s n sc k = waits-whole used (sc .best) s (k .waits)

@@ -19,7 +19,7 @@ use Rattle.row.specs.declared.read.CellRead.{CellRead}
 use Rattle.row.proofs.Exact.{cell-placed}
 use Rattle.mvcc.specs.Rules.{visible}
 use Rattle.mvcc.specs.declared.Current.{Current}
-use Rattle.leaf.specs.Cells.{onCell, cellsOf, cells, foldCells}
+use Rattle.leaf.specs.Cells.{cellsOf, cells, foldCells}
 use Rattle.leaf.specs.declared.find.Best.{Best}
 use Rattle.listing.specs.Listed.{Written, written}
 use Rattle.scan.specs.Fast.{spanOf, choose, stepFrom, scanned, waitBytes, pushedBy, pushed, pushedAll, passLeaf, Waits}

@@ -4,7 +4,9 @@ ghost use mathlib.Core.Bool.{true};
 ghost use Prim.Native.Nat.{_*_, _≤_};
 ghost use lib.ListN.{length};
 ghost use Rattle.mvcc.specs.Lists.{rising, lookup, Judged as StatusesJudged};
+ghost use Rattle.tree.specs.Descend.{descendOf};
 ghost use Rattle.tree.specs.Lookup.{bestInTree, testInTree, inPool};
+ghost use Rattle.tree.specs.declared.Route.{Route};
 use crate::ChainBest;
 use crate::ChainTest;
 use crate::Descent;
@@ -12,6 +14,14 @@ use crate::Route;
 use mvcc::Current;
 use row::Cell;
 use row::Version;
+
+// Where search comes to: left of an equal separator, so that older versions there are not lost.
+fn search_leaf(pool: &[u8], used: u32, root: u32, key: u32) -> Descent
+    requires { ⌜ used * 4096 ≤ length (now pool) ⌝ }
+    ensures { λ r. ⌜ r ≡ descendOf 3 (Route.Search key) used root (now (pool .entry)) ⌝ }
+{
+    crate::descend(pool, used, root, Route::Search(key))
+}
 
 // The newest visible version of the key.
 pub fn best_in_tree(
@@ -28,7 +38,7 @@ pub fn best_in_tree(
     requires { ⌜ (used * 4096 ≤ length (now pool)) × StatusesJudged (now ids) (now states) × (rising (now active) ≡ true) ⌝ }
     ensures { λ r. ⌜ r ≡ bestInTree (lookup (now (ids .entry)) (now (states .entry))) (now (active .entry)) xmax cur used root key (now (pool .entry)) ⌝ }
 {
-    match crate::descend(pool, used, root, Route::Search(key)) {
+    match search_leaf(pool, used, root, key) {
         Descent::Bad(f) => ChainBest::Bad(f),
         Descent::Leaf(p) => crate::best_along(pool, ids, states, active, xmax, cur, used, key, p),
     }
@@ -51,7 +61,7 @@ pub fn test_in_tree(
     requires { ⌜ (used * 4096 ≤ length (now pool)) × StatusesJudged (now ids) (now states) × (rising (now active) ≡ true) ⌝ }
     ensures { λ r. ⌜ r ≡ testInTree claiming (lookup (now (ids .entry)) (now (states .entry))) (now (active .entry)) xmax cur used root seen key (now (pool .entry)) ⌝ }
 {
-    match crate::descend(pool, used, root, Route::Search(key)) {
+    match search_leaf(pool, used, root, key) {
         Descent::Bad(f) => ChainTest::Bad(f),
         Descent::Leaf(p) => crate::test_along(
             pool,

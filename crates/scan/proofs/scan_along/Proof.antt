@@ -1,6 +1,6 @@
 -- `scan::scan_along` meets its contract: what is left of the walk gives what the whole walk gives. Assumes nothing.
-use Rattle.scan.proofs.Stepping.{scan-broken, scan-go, leaf-on, measured-whole}
-use Rattle.scan.proofs.Measuring.{Measured}
+use Rattle.scan.proofs.Stepping.{scan-broken, scan-go}
+use Rattle.scan.proofs.Measuring.{Measured, leaf-on, measured-whole}
 use Rattle.scan.specs.Fast.{lookScan, startScan, toldScan, scanAlong}
 use Rattle.tree.specs.Chain.{along}
 use Rattle.tree.proofs.Ways.{along-again, along-unused, along-bad, along-end, along-on}

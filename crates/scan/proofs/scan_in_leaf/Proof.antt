@@ -1,9 +1,9 @@
 -- `scan::scan_in_leaf` meets its contract: the walk that is left gives what the whole walk gives. Assumes nothing.
-use Rattle.scan.proofs.Stepping.{scanned-grown, cell-grown}
+use Rattle.scan.proofs.Stepping.{cell-grown}
 use Rattle.scan.specs.Fast.{scanned, scanLeaf, Whole}
 use Rattle.scan.specs.declared.LeafScan.{LeafScan}
 use Rattle.leaf.proofs.Finding.{loop-type, loop-bad, loop-done}
-use Rattle.leaf.proofs.Walking.{walk, walk-bad, walk-in, walk-done, step-next}
+use Rattle.leaf.proofs.Walking.{walk, walk-bad, walk-in, walk-done}
 use Rattle.mvcc.specs.Lists.{lookup}
 use native.Mathlib.Omega.{arith}
 use Prim.Native.Nat.{_+_, _*_, _≤_}

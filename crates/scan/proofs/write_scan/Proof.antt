@@ -1,5 +1,5 @@
 -- `scan::write_scan` meets its contract: what was gathered stands at the start of the output. Assumes nothing.
-use Rattle.scan.proofs.Passing.{Passing, passing-start, passing-in, passing-over, passing-long, passing-room, passing-few, passing-on, last-asks, last-long, last-is}
+use Rattle.scan.proofs.Passing.{Passing, passing-start, passing-in, passing-over, passing-room, passing-few, passing-on, last-asks, last-long, last-is}
 use Rattle.mvcc.specs.Lists.{lookup}
 use native.Mathlib.Omega.{arith}
 use borrow.Author.Needs.{needs}

@@ -119,7 +119,14 @@ fn large(r: &mut Recorder) {
         &[(1, 1981), (3, 81), (2, MAX_DATA), (4, 1)],
         &[(-5, 2000), (5, 2000), (0, 2000), (-9, 2000), (9, 2000)],
         &[(0, 4051), (0, 1), (0, 0), (0, 14), (1, 4050)],
-        &[(2, 1300), (2, 1300), (2, 1300), (2, 1300), (1, 1300), (3, 1300)],
+        &[
+            (2, 1300),
+            (2, 1300),
+            (2, 1300),
+            (2, 1300),
+            (1, 1300),
+            (3, 1300),
+        ],
     ];
     for order in orders {
         r.history(0);
@@ -152,7 +159,9 @@ fn any_head(rng: &mut Rng, keys: u64) -> Head {
         key,
         creator,
         deleter: rng.chance(1, 3).then_some(deleter),
-        ptr: rng.chance(1, 3).then(|| (rng.draw() as u32, rng.draw() as u16)),
+        ptr: rng
+            .chance(1, 3)
+            .then(|| (rng.draw() as u32, rng.draw() as u16)),
     }
 }
 

@@ -10,6 +10,9 @@ const SHORTEST: usize = 7;
 
 type Window = [u8; SHORTEST];
 
+/// Where a run of bytes stands first and last, in the pages that are copied from.
+pub type Places = HashMap<Window, [usize; 2]>;
+
 fn window(bytes: &[u8]) -> Window {
     bytes[..SHORTEST].try_into().unwrap()
 }
@@ -19,9 +22,8 @@ fn common(a: &[u8], b: &[u8]) -> usize {
     a.iter().zip(b).take_while(|(x, y)| x == y).count()
 }
 
-/// Where a run of bytes stands first and last, in the pages that are copied from.
-fn places(pool: &[u8], pages: &[u32]) -> HashMap<Window, [usize; 2]> {
-    let mut places = HashMap::new();
+pub fn places(pool: &[u8], pages: &[u32]) -> Places {
+    let mut places = Places::new();
     for &page in pages {
         let start = page as usize * PAGE;
         for at in start..=start + PAGE - SHORTEST {
@@ -32,10 +34,10 @@ fn places(pool: &[u8], pages: &[u32]) -> HashMap<Window, [usize; 2]> {
     places
 }
 
-/// The pieces of `image`, which is to be page `n` of the pool; runs are looked for in `pages`.
-pub fn tell(n: u32, image: &[u8; PAGE], pool: &[u8], pages: &[u32], data: &[Data]) -> String {
+/// The pieces of `image`, which is to be page `n` of the pool. Runs are looked for at `places`, and
+/// taken as they stand there now.
+pub fn tell(n: u32, image: &[u8; PAGE], pool: &[u8], places: &Places, data: &[Data]) -> String {
     let end = image.iter().rposition(|&x| x != 0).map_or(0, |i| i + 1);
-    let places = places(pool, pages);
     let known: Vec<(Data, Vec<u8>)> = data.iter().map(|d| (*d, d.bytes())).collect();
     let mut text = String::new();
     let mut plain: Vec<u8> = Vec::new();
@@ -56,7 +58,11 @@ pub fn tell(n: u32, image: &[u8; PAGE], pool: &[u8], pages: &[u32], data: &[Data
             from.extend(places.get(&window(rest)).into_iter().flatten());
         }
         let run = |start: usize| common(rest, &pool[start..(start / PAGE + 1) * PAGE]);
-        let best = from.into_iter().rev().max_by_key(|&start| run(start)).unwrap();
+        let best = from
+            .into_iter()
+            .rev()
+            .max_by_key(|&start| run(start))
+            .unwrap();
         if let Some((d, bytes)) = made {
             flush(&mut plain, &mut text);
             text.push_str(&format!(" g {:x} {:x}", d.len, d.seed));
@@ -79,7 +85,10 @@ fn number(s: &str) -> usize {
 }
 
 fn unhex(s: &str) -> Vec<u8> {
-    (0..s.len()).step_by(2).map(|i| number(&s[i..i + 2]) as u8).collect()
+    (0..s.len())
+        .step_by(2)
+        .map(|i| number(&s[i..i + 2]) as u8)
+        .collect()
 }
 
 /// The image that the pieces tell.

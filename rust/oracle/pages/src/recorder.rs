@@ -117,9 +117,8 @@ impl Recorder {
 
     /// The one leaf that the call changed or divided; if there is none, the root if that is a leaf.
     fn changed(&self, touched: &[u32], in_use: u32) -> Option<u32> {
-        let changed = |n: &u32| {
-            *n < in_use && is_other(page(&self.seen, *n), &self.oracle.page(*n))
-        };
+        let changed =
+            |n: &u32| *n < in_use && is_other(page(&self.seen, *n), &self.oracle.page(*n));
         let found: Vec<u32> = touched.iter().copied().filter(changed).collect();
         assert!(found.len() < 2, "{found:?}");
         found.first().copied().or_else(|| self.only_leaf())
@@ -131,13 +130,19 @@ impl Recorder {
     }
 
     /// Notes what the call made of the pages, and goes on from there.
-    fn went(&mut self, leaf: u32, stamping: bool, in_use: u32) {
+    fn went(&mut self, leaf: u32, stamping: bool, touched: &[u32], in_use: u32) {
         let (oracle, seen) = (&self.oracle, &self.seen);
         let now = |n: u32| oracle.page(n);
         // Of a root that is pinned, the left side is in the page after the right side and the top.
         let left = if now(leaf)[0] == 1 { leaf } else { in_use + 2 };
-        self.tally.leaf(stamping, page(seen, leaf), &now(left), oracle.in_use() > in_use);
-        self.tally.above(seen, &now, in_use, oracle.in_use());
+        self.tally.leaf(
+            stamping,
+            page(seen, leaf),
+            &now(left),
+            oracle.in_use() > in_use,
+        );
+        self.tally
+            .above(seen, &now, touched, in_use, oracle.in_use());
         self.look();
     }
 
@@ -154,9 +159,10 @@ impl Recorder {
             return;
         };
         let (head, len, seed) = (head.text(), data.len, data.seed);
-        self.list.push_str(&format!("i {leaf:x} {head} {len:x} {seed:x}\n"));
+        self.list
+            .push_str(&format!("i {leaf:x} {head} {len:x} {seed:x}\n"));
         self.data.push(data);
-        self.went(leaf, false, in_use);
+        self.went(leaf, false, &touched, in_use);
     }
 
     pub fn stamp(&mut self, key: i32, xmax: u64, deleter: u64) {
@@ -169,8 +175,9 @@ impl Recorder {
         let Some(leaf) = self.changed(&touched, in_use) else {
             return;
         };
-        self.list.push_str(&format!("s {leaf:x} {key:x} {xmax:x} {deleter:x}\n"));
-        self.went(leaf, true, in_use);
+        self.list
+            .push_str(&format!("s {leaf:x} {key:x} {xmax:x} {deleter:x}\n"));
+        self.went(leaf, true, &touched, in_use);
     }
 
     pub fn remove(&mut self, key: i32) {
@@ -191,7 +198,11 @@ impl Recorder {
         let (touched, _) = self.call(&Op::Vacuum(bound));
         for leaf in leaves {
             self.list.push_str(&format!("v {leaf:x} {bound:x}\n"));
-            self.tally.note_either(touched.contains(&leaf), Kind::Vacuumed, Kind::NothingVacuumed);
+            self.tally.note_either(
+                touched.contains(&leaf),
+                Kind::Vacuumed,
+                Kind::NothingVacuumed,
+            );
         }
         self.look();
     }
@@ -223,16 +234,18 @@ impl Recorder {
         pages.retain(|&n| self.oracle.page(n) != *page(&self.told, n));
         let mut rewritten = pages.clone();
         rewritten.retain(|&n| self.oracle.page(n)[12..] != page(&self.told, n)[12..]);
+        let places = pieces::places(&self.told, &rewritten);
         for &n in pages.iter().rev() {
             let image = self.oracle.page(n);
-            let text = pieces::tell(n, &image, &self.told, &rewritten, &self.data);
+            let text = pieces::tell(n, &image, &self.told, &places, &self.data);
             assert_eq!(pieces::image(&text, &self.told), image, "page {n}: {text}");
             self.list.push_str(&format!("p {n:x}{text}\n"));
             self.tally.note(Kind::Told);
             let at = n as usize * PAGE;
             self.told[at..at + PAGE].copy_from_slice(&image);
         }
-        assert!(self.oracle.pool() == self.told, "a page was left out");
+        let told = |n: u32| self.oracle.page(n) == *page(&self.told, n);
+        assert!((0..self.oracle.in_use()).all(told), "a page was left out");
         self.list.push_str(&format!("= {:x}\n", self.count));
         self.tally.note(Kind::Case);
         self.data.clear();

@@ -101,9 +101,17 @@ impl Tally {
         }
     }
 
-    /// The internal pages: what was seen of the pool, what they are now, and the pages in use then and now.
-    pub fn above(&mut self, seen: &[u8], now: &dyn Fn(u32) -> [u8; PAGE], then: u32, used: u32) {
-        for n in 0..then {
+    /// The internal pages: what was seen of the pool, what the pages that were stored to are now, and the
+    /// pages in use then and now.
+    pub fn above(
+        &mut self,
+        seen: &[u8],
+        now: &dyn Fn(u32) -> [u8; PAGE],
+        stored: &[u32],
+        then: u32,
+        used: u32,
+    ) {
+        for &n in stored.iter().filter(|&&n| n < then) {
             let (before, after) = (page(seen, n), &now(n));
             let (old, new) = (header(before), header(after));
             if old.leaf || old.count == new.count {
@@ -131,6 +139,9 @@ impl Tally {
     pub fn text(&self) -> String {
         let line = |(n, what): (&usize, &str)| format!("{n} {what}\n");
         let lines: String = self.0.iter().zip(WORDS).map(line).collect();
-        format!("{lines}0 faults\n{} cases, 0 differ\n", self.0[Kind::Case as usize])
+        format!(
+            "{lines}0 faults\n{} cases, 0 differ\n",
+            self.0[Kind::Case as usize]
+        )
     }
 }

@@ -4,8 +4,8 @@ use borrow.Author.Needs.{needs}
 use Rattle.tree.proofs.lookup.test_in_tree.Statement.{statement}
 use Rattle.tree.proofs.lookup.test_in_tree.Tie as tie
 
-descend-requires : tie.Need-descend-requires
-descend-requires c κs = search needs
+search-leaf-requires : tie.Need-search-leaf-requires
+search-leaf-requires c κs = search needs
 
 enum-known-f : tie.Need-enum-known-f
 enum-known-f c = search needs
@@ -17,16 +17,16 @@ test-along-requires : tie.Need-test-along-requires
 test-along-requires c κs = search needs
 
 returns : tie.Need-returns
-returns c = test-lost _ _ _ _ _ _ _ _ (c .before .before .before .descend .ensures) _ _ (c .before .f .given .1)
+returns c = test-lost _ _ _ _ _ _ _ _ (c .before .before .before .search-leaf .ensures) _ _ (c .before .f .given .1)
 
 returns-2 : tie.Need-returns-2
-returns-2 c = test-leaf _ _ _ _ _ _ _ _ (c .before .before .before .before .descend .ensures) _ _ (c .before .before .p .given .1) (c .test-along .ensures)
+returns-2 c = test-leaf _ _ _ _ _ _ _ _ (c .before .before .before .before .search-leaf .ensures) _ _ (c .before .before .p .given .1) (c .test-along .ensures)
 
 pub test-in-tree-spec : {M : Type 1} → statement M
 test-in-tree-spec =
     tie.close
     (tie.spec
-    descend-requires
+    search-leaf-requires
     enum-known-f
     enum-known-p
     test-along-requires
