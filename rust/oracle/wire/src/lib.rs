@@ -56,6 +56,36 @@ impl Version {
         cell.extend(payload);
         cell
     }
+
+    /// The version whose `cell` these bytes are.
+    pub fn of_cell(cell: &[u8]) -> Self {
+        let mut rest = cell;
+        let key = i32::from_le_bytes(take(&mut rest));
+        let _length: [u8; 4] = take(&mut rest);
+        let _format: [u8; 1] = take(&mut rest);
+        let creator = u64::from_le_bytes(take(&mut rest));
+        let stamped = take(&mut rest) == [1];
+        let deleter = stamped.then(|| u64::from_le_bytes(take(&mut rest)));
+        let pointed = take(&mut rest) == [1];
+        let ptr = pointed.then(|| {
+            let page = u32::from_le_bytes(take(&mut rest));
+            (page, u16::from_le_bytes(take(&mut rest)))
+        });
+        Version {
+            key,
+            creator,
+            deleter,
+            ptr,
+            data: rest.to_vec(),
+        }
+    }
+}
+
+/// The first `N` bytes, which `rest` loses.
+fn take<const N: usize>(rest: &mut &[u8]) -> [u8; N] {
+    let (first, after) = rest.split_first_chunk().expect("a whole cell");
+    *rest = after;
+    *first
 }
 
 #[derive(Debug, Clone, PartialEq, Eq)]

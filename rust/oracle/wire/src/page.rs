@@ -43,6 +43,22 @@ pub fn children(page: &[u8; PAGE]) -> Vec<u32> {
     (0..=count).map(|i| u32_at(page, 12 + 8 * i)).collect()
 }
 
+/// Page `n` of a pool.
+pub fn of_pool(pool: &[u8], n: u32) -> &[u8; PAGE] {
+    let at = n as usize * PAGE;
+    pool[at..at + PAGE].try_into().unwrap()
+}
+
+/// The leaves of a sound tree, left to right.
+pub fn leaves(pool: &[u8], root: u32) -> Vec<u32> {
+    let mut n = root;
+    while !header(of_pool(pool, n)).leaf {
+        n = children(of_pool(pool, n))[0];
+    }
+    let next = |n: &u32| Some(header(of_pool(pool, *n)).next).filter(|&n| n != 0);
+    std::iter::successors(Some(n), next).collect()
+}
+
 /// A leaf, root and alone, with a cell count and the bytes of its cells.
 pub fn leaf(count: u8, cells: &[u8]) -> [u8; PAGE] {
     let mut page = [0; PAGE];

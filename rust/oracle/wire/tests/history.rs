@@ -1,4 +1,4 @@
-//! The text of a history can be read back.
+//! The text of a history and the records of a listing can be read back.
 use wire::random::{self, Rng};
 use wire::*;
 
@@ -32,4 +32,22 @@ fn answers_are_told() {
     for (answer, text) in cases {
         assert_eq!(text::of_answer(&answer), text);
     }
+}
+
+#[test]
+fn records_are_read_back() {
+    let mut rng = Rng(2);
+    let versions: Vec<Version> = std::iter::repeat_with(|| random::call(&mut rng))
+        .filter_map(|op| match op {
+            Op::InsertVersion(v) => Some(v),
+            _ => None,
+        })
+        .take(200)
+        .collect();
+    assert_eq!(
+        records::to_versions(&records::of_versions(&versions)),
+        versions
+    );
+    let pages = [0, 7, u32::MAX];
+    assert_eq!(records::to_pages(&records::of_pages(&pages)), pages);
 }

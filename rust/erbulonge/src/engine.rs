@@ -1,0 +1,142 @@
+//! The port's reading calls as a `wire::Engine`, for runs against the oracle.
+use crate::{Answer, Found, Snapshot, State, Statuses};
+use wire::{Ans, Engine, Op, PAGE, Snap, Version, page, records};
+
+/// A pool of its own with one tree, a status list and a current transaction.
+pub struct Port {
+    pool: Vec<u8>,
+    state: State,
+    ids: Vec<u64>,
+    states: Vec<u8>,
+    current: Option<u64>,
+    out: Vec<u8>,
+}
+
+fn snapshot(s: &Snap) -> Snapshot<'_> {
+    Snapshot {
+        xmax: s.xmax,
+        active: &s.active,
+        current: s.current,
+    }
+}
+
+impl Port {
+    pub fn new(pool: Vec<u8>, state: State) -> Self {
+        Port {
+            // No listing is longer: its records are 6 bytes longer than cells of at least 19.
+            out: vec![0; 2 * pool.len()],
+            pool,
+            state,
+            ids: Vec::new(),
+            states: Vec::new(),
+            current: None,
+        }
+    }
+
+    fn statuses(&self) -> Statuses<'_> {
+        Statuses {
+            ids: &self.ids,
+            states: &self.states,
+        }
+    }
+
+    fn version(&self, key: i32, f: Found) -> Ans {
+        Ans::Found(Version {
+            key,
+            creator: f.creator,
+            deleter: f.deleter,
+            ptr: f.pointer,
+            data: f.data(&self.pool).to_vec(),
+        })
+    }
+
+    /// The listing that `call` writes.
+    fn listing(
+        &mut self,
+        call: impl FnOnce(&Self, &mut [u8]) -> Answer<usize>,
+        told: impl FnOnce(&[u8]) -> Ans,
+    ) -> Answer<Ans> {
+        let mut out = std::mem::take(&mut self.out);
+        let answer = call(self, &mut out).map(|n| told(&out[..n]));
+        self.out = out;
+        answer
+    }
+
+    fn create(&mut self) -> Answer<Ans> {
+        self.state = self.state.create(&mut self.pool)?;
+        Ok(Ans::Done)
+    }
+
+    fn answer(&mut self, op: &Op) -> Answer<Ans> {
+        let versions = |bytes: &[u8]| Ans::List(records::to_versions(bytes));
+        let (st, pool) = (self.state, &self.pool[..]);
+        match op {
+            Op::Create => self.create(),
+            Op::Find(key) => st
+                .find(pool, *key, self.current, &self.statuses())
+                .map(|f| self.version(*key, f)),
+            Op::Lookup(key, s) => st
+                .find_visible(pool, *key, &snapshot(s), &self.statuses())
+                .map(|f| self.version(*key, f)),
+            Op::Conflict(key, seen, s) => st
+                .has_write_conflict(pool, *key, *seen, &snapshot(s))
+                .map(Ans::Flag),
+            Op::Versions(key) => {
+                self.listing(|e, out| st.versions_of(&e.pool, *key, out), versions)
+            }
+            Op::All => self.listing(|e, out| st.all_versions(&e.pool, out), versions),
+            Op::Visible(s) => self.listing(
+                |e, out| st.scan_visible(&e.pool, &snapshot(s), &e.statuses(), out),
+                versions,
+            ),
+            Op::PageNumbers => self.listing(
+                |e, out| st.page_numbers(&e.pool, out),
+                |bytes| Ans::Pages(records::to_pages(bytes)),
+            ),
+            _ => unimplemented!("the port has the reading calls only: {op:?}"),
+        }
+    }
+}
+
+impl Engine for Port {
+    fn name(&self) -> &'static str {
+        "erbulonge"
+    }
+
+    fn root(&self) -> u32 {
+        self.state.root
+    }
+
+    fn in_use(&self) -> u32 {
+        self.state.used
+    }
+
+    fn capacity(&self) -> u32 {
+        (self.pool.len() / PAGE) as u32
+    }
+
+    fn page(&self, n: u32) -> [u8; PAGE] {
+        *page::of_pool(&self.pool, n)
+    }
+
+    fn open(&mut self, root: u32) {
+        self.state.root = root;
+    }
+
+    fn set_statuses(&mut self, s: &[(u64, u8)]) {
+        (self.ids, self.states) = s.iter().copied().unzip();
+    }
+
+    fn set_current(&mut self, current: Option<u64>) {
+        self.current = current;
+    }
+
+    fn run(&mut self, op: &Op) -> Ans {
+        self.answer(op)
+            .unwrap_or_else(|refusal| Ans::Refused(refusal.number()))
+    }
+
+    fn pool(&self) -> Vec<u8> {
+        self.pool.clone()
+    }
+}

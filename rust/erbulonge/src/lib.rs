@@ -1,0 +1,249 @@
+//! Erbulonge for a Rust server: a versioned B+tree in one lent pool of 4096-byte
+//! pages. Every call takes any pool, state and lists, judges them itself, and
+//! ends with a value or a [`Refusal`]. A refused call changes nothing.
+//!
+//! ```no_run
+//! use erbulonge::{Snapshot, State, Statuses};
+//!
+//! let mut pool = vec![0; 64 * 4096];
+//! let tree = State { root: 0, used: 0 }.create(&mut pool).unwrap();
+//! let snapshot = Snapshot { xmax: 20, active: &[12], current: Some(15) };
+//! match tree.find_visible(&pool, 7, &snapshot, &Statuses::default()) {
+//!     Ok(found) => println!("{:?}", found.data(&pool)),
+//!     Err(refusal) => println!("{refusal:?}, number {}", refusal.number()),
+//! }
+//! ```
+
+pub mod calls;
+#[cfg(feature = "engine")]
+pub mod engine;
+
+/// Which tree of the pool: its root page, and how many pages of the pool are in
+/// use. It goes in by value; a call that changes it gives a new one.
+#[derive(Debug, Clone, Copy, PartialEq, Eq)]
+pub struct State {
+    pub root: u32,
+    pub used: u32,
+}
+
+/// What a transaction sees: everything finished below `xmax` that is not in
+/// `active` (strictly rising, at most 4096), and what `current` did itself.
+#[derive(Debug, Clone, Copy)]
+pub struct Snapshot<'a> {
+    pub xmax: u64,
+    pub active: &'a [u64],
+    pub current: Option<u64>,
+}
+
+/// The status list: transaction `ids[i]` is in `states[i]`, which is 1 active, 2
+/// committed or 3 aborted. Strictly rising, at most 65,536; a transaction that
+/// is not listed counts as committed.
+#[derive(Debug, Clone, Copy, Default)]
+pub struct Statuses<'a> {
+    pub ids: &'a [u64],
+    pub states: &'a [u8],
+}
+
+/// A version that a lookup found. Its data stays in the pool.
+#[derive(Debug, Clone, Copy, PartialEq, Eq)]
+pub struct Found {
+    pub creator: u64,
+    pub deleter: Option<u64>,
+    /// Page and slot.
+    pub pointer: Option<(u32, u16)>,
+    /// Where the data begins, counted from the pool's first byte.
+    pub start: usize,
+    pub len: usize,
+}
+
+impl Found {
+    /// The version's data, in the pool that was searched.
+    pub fn data<'p>(&self, pool: &'p [u8]) -> &'p [u8] {
+        &pool[self.start..self.start + self.len]
+    }
+}
+
+/// Why a call was refused, by the rules' names and numbers.
+#[derive(Debug, Clone, Copy, PartialEq, Eq)]
+#[repr(u8)]
+pub enum Refusal {
+    /// The pool is not 1 to 65,536 whole pages, or has fewer than are in use.
+    BadPool = 1,
+    /// A page that the call read is damaged.
+    BadTree = 2,
+    /// The active list is over 4096 or does not rise.
+    BadSnapshot = 3,
+    /// The status list is over 65,536, does not rise, or has a state not 1 to 3.
+    BadStatuses = 4,
+    /// Data over 4051 bytes.
+    BadData = 5,
+    /// The key has a visible version already.
+    Duplicate = 6,
+    /// Another transaction changed the key first.
+    Conflict = 7,
+    /// Nothing visible to find, stamp or claim.
+    Absent = 8,
+    /// A leaf would overflow and no cut gives two sides that fit.
+    Undividable = 9,
+    /// The pool has too few pages left.
+    NoPages = 10,
+    /// The tree has four levels and would need a fifth.
+    TooDeep = 11,
+    /// The output is too short for the listing.
+    Short = 12,
+}
+
+impl Refusal {
+    const ALL: [Refusal; 12] = [
+        Refusal::BadPool,
+        Refusal::BadTree,
+        Refusal::BadSnapshot,
+        Refusal::BadStatuses,
+        Refusal::BadData,
+        Refusal::Duplicate,
+        Refusal::Conflict,
+        Refusal::Absent,
+        Refusal::Undividable,
+        Refusal::NoPages,
+        Refusal::TooDeep,
+        Refusal::Short,
+    ];
+
+    pub fn number(self) -> u8 {
+        self as u8
+    }
+}
+
+/// What every call gives: Done with its value, or a refusal.
+pub type Answer<T> = Result<T, Refusal>;
+
+/// 0 is Done, and then the words are `value`'s.
+fn answer<T>(
+    number: u8,
+    words: &calls::Words,
+    value: impl FnOnce(&calls::Words) -> T,
+) -> Answer<T> {
+    match number {
+        0 => Ok(value(words)),
+        n => Err(Refusal::ALL[n as usize - 1]),
+    }
+}
+
+fn flag(words: &calls::Words) -> bool {
+    words[0] == 1
+}
+
+fn length(words: &calls::Words) -> usize {
+    words[0] as usize
+}
+
+fn found(words: &calls::Words) -> Found {
+    let [creator, stamped, deleter, pointed, page, slot, start, len] = *words;
+    Found {
+        creator,
+        deleter: (stamped == 1).then_some(deleter),
+        pointer: (pointed == 1).then_some((page as u32, slot as u16)),
+        start: start as usize,
+        len: len as usize,
+    }
+}
+
+impl State {
+    /// A new empty tree on the next page of the pool, which becomes its root.
+    /// Refusals: BadPool, NoPages.
+    pub fn create(self, pool: &mut [u8]) -> Answer<State> {
+        let mut words = [0; 8];
+        let number = calls::create(pool, self, &mut words);
+        answer(number, &words, |w| State {
+            root: w[0] as u32,
+            used: w[1] as u32,
+        })
+    }
+
+    /// Whether the tree is well-formed. Refusals: BadPool.
+    pub fn check(self, pool: &[u8]) -> Answer<bool> {
+        let mut words = [0; 8];
+        let number = calls::check(pool, self, &mut words);
+        answer(number, &words, flag)
+    }
+
+    /// The newest version of a key that the snapshot sees. Refusals: BadPool,
+    /// BadSnapshot, BadStatuses, BadTree, Absent.
+    pub fn find_visible(
+        self,
+        pool: &[u8],
+        key: i32,
+        snapshot: &Snapshot,
+        statuses: &Statuses,
+    ) -> Answer<Found> {
+        let mut words = [0; 8];
+        let number = calls::find_visible(pool, self, key, snapshot, statuses, &mut words);
+        answer(number, &words, found)
+    }
+
+    /// The newest version of a key among all that are finished or `current`'s
+    /// own. Refusals: BadPool, BadStatuses, BadTree, Absent.
+    pub fn find(
+        self,
+        pool: &[u8],
+        key: i32,
+        current: Option<u64>,
+        statuses: &Statuses,
+    ) -> Answer<Found> {
+        let mut words = [0; 8];
+        let number = calls::find(pool, self, key, current, statuses, &mut words);
+        answer(number, &words, found)
+    }
+
+    /// Whether the key was changed after the snapshot by another transaction,
+    /// given the creator of the version that was seen. Refusals: BadPool,
+    /// BadSnapshot, BadTree.
+    pub fn has_write_conflict(
+        self,
+        pool: &[u8],
+        key: i32,
+        seen: u64,
+        snapshot: &Snapshot,
+    ) -> Answer<bool> {
+        let mut words = [0; 8];
+        let number = calls::has_write_conflict(pool, self, key, seen, snapshot, &mut words);
+        answer(number, &words, flag)
+    }
+
+    /// Every version of a key, as records at the start of `out`; gives their
+    /// length. Refusals: BadPool, BadTree, Short.
+    pub fn versions_of(self, pool: &[u8], key: i32, out: &mut [u8]) -> Answer<usize> {
+        let mut words = [0; 8];
+        let number = calls::versions_of(pool, self, key, out, &mut words);
+        answer(number, &words, length)
+    }
+
+    /// Every version of the tree, as records. Refusals: BadPool, BadTree, Short.
+    pub fn all_versions(self, pool: &[u8], out: &mut [u8]) -> Answer<usize> {
+        let mut words = [0; 8];
+        let number = calls::all_versions(pool, self, out, &mut words);
+        answer(number, &words, length)
+    }
+
+    /// The newest version of every key that the snapshot sees, by rising keys,
+    /// as records. Refusals: BadPool, BadSnapshot, BadStatuses, BadTree, Short.
+    pub fn scan_visible(
+        self,
+        pool: &[u8],
+        snapshot: &Snapshot,
+        statuses: &Statuses,
+        out: &mut [u8],
+    ) -> Answer<usize> {
+        let mut words = [0; 8];
+        let number = calls::scan_visible(pool, self, snapshot, statuses, out, &mut words);
+        answer(number, &words, length)
+    }
+
+    /// The numbers of the tree's pages, as records of 10 bytes. Refusals:
+    /// BadPool, BadTree, Short.
+    pub fn page_numbers(self, pool: &[u8], out: &mut [u8]) -> Answer<usize> {
+        let mut words = [0; 8];
+        let number = calls::page_numbers(pool, self, out, &mut words);
+        answer(number, &words, length)
+    }
+}
