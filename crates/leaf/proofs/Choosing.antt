@@ -12,11 +12,10 @@ use Rattle.mvcc.specs.Rules.{visible}
 use Rattle.mvcc.specs.declared.Current.{Current}
 use Rattle.page.specs.Header.{nodeType, cellCount}
 use Rattle.row.specs.declared.Cell.{Cell}
-use Rattle.leaf.specs.Cells.{foldCells, structural, stepOf, onStep, judgeCells, judgeLeaf}
+use Rattle.leaf.specs.Cells.{Step, foldCells, structural, stepOf, onStep, judgeCells, judgeLeaf}
 use Rattle.leaf.specs.Find.{later, newest}
 use Rattle.leaf.specs.FindFacts.{Candidate, EachCandidate, Chosen, ChosenBy, LookupChooses, AnyPage}
 use Rattle.leaf.specs.declared.find.Best.{Best}
-use Rattle.leaf.specs.declared.Step.{Step}
 use Rattle.leaf.specs.declared.Judged.{Judged}
 use Rattle.leaf.proofs.Walking.{step-cell, step-in}
 

@@ -10,15 +10,15 @@ use lib.Dec.{ltb, leb, eqb}
 use Rattle.page.specs.Header.{nodeType, cellCount}
 use Rattle.row.specs.Read.{cellAt}
 use Rattle.row.specs.declared.Cell.{Cell}
+use Rattle.row.specs.declared.read.CellRead.{CellRead}
 use Rattle.row.specs.declared.Fault.{Fault}
-use Rattle.leaf.specs.Cells.{onCell, cellsOf, cells, foldCells, inOrder, structural, stepOf, onStep, judgeCells, judgeLeaf, onJudged, hasLarger}
+use Rattle.leaf.specs.Cells.{Step, onCell, cellsOf, cells, foldCells, inOrder, structural, stepOf, onStep, judgeCells, judgeLeaf, onJudged, hasLarger}
 use Rattle.store.specs.Pick.{pick}
 use Rattle.mvcc.specs.Rules.{visible, conflicting, claimConflicting}
 use Rattle.mvcc.specs.declared.Current.{Current}
-use Rattle.leaf.specs.Find.{later, newest, joined, running}
+use Rattle.leaf.specs.Find.{later, newest, joined, runPast, running}
 use Rattle.leaf.specs.declared.find.Best.{Best}
 use Rattle.leaf.specs.declared.find.Run.{Run}
-use Rattle.leaf.specs.declared.Step.{Step}
 use Rattle.leaf.specs.declared.Judged.{Judged}
 use Rattle.leaf.proofs.Walking.{Walked, done, bad, walk, lastKey, onWalked, walked, step-cell, leaf-cells, leaf-other}
 
@@ -97,6 +97,17 @@ module _ {A B : Type 0} (good : ℕ → A → Bool → B) (ill : Fault → B) (f
 
 -- ---- the steps of the folds
 
+-- what is asked of the cell at an offset
+module _ {A : Type 0} (good : Cell → A) (bad₀ : ℕ → A) {r t : CellRead} (e : r ≡ t) where
+  pub read-bad : {kind : ℕ} → r ≡ CellRead.Bad kind → bad₀ kind ≡ onCell good bad₀ t
+  read-bad q = rw (sym e ∙ q)
+
+  pub read-got : {x : Cell} {y : A} → r ≡ CellRead.Got x → y ≡ good x → y ≡ onCell good bad₀ t
+  read-got q u = u ∙ rw (sym e ∙ q)
+
+pub read-is : {A : Type 0} (good : Cell → A) (bad₀ : ℕ → A) {r : CellRead} {x : Cell} {y : A} → r ≡ CellRead.Got x → y ≡ onCell good bad₀ r → y ≡ good x
+read-is good bad₀ q u = u ∙ ap (onCell good bad₀) q
+
 module _ (p : ℕ) (best : Best) (x : Cell) where
   pub later-first : best ≡ Best.Nothing → Best.At p x ≡ later p best x
   later-first e = rw e
@@ -123,6 +134,12 @@ module _ (st : ℕ → ℕ) (active : List ℕ) (xmax : ℕ) (cur : Current) (ke
       unfolding newest
       newest-unseen t = rw (eq-eqb _ _ h, sym u ∙ t)
 
+  module _ (claiming : Bool) (seen : ℕ) where
+    pub joined-skip : (found : Bool) → (x .key ≡ key → ⊥) → found ≡ joined claiming st active xmax cur seen key found x
+    unfolding joined
+    joined-skip true h = refl
+    joined-skip false h = rw (ne-eqb _ _ h)
+
   module _ (claiming : Bool) (seen : ℕ) (found : Bool) where
     pub joined-found : found ≡ true → true ≡ joined claiming st active xmax cur seen key found x
     unfolding joined
@@ -144,24 +161,41 @@ module _ (st : ℕ → ℕ) (active : List ℕ) (xmax : ℕ) (cur : Current) (ke
         unfolding joined
         joined-ported t q = q ∙ rw (e, eq-eqb _ _ h, t)
 
-module _ (key : ℕ) (here : Run) (x : Cell) where
-  pub running-below : x .key < key → record { from = x .next; to = x .next; count = 0 } ≡ running key here x
-  unfolding running
-  running-below h = rw (lt-ltb _ _ h)
+module _ (key : ℕ) (here : Run) (k next : ℕ) where
+  pub past-below : k < key → record { from = next; to = next; count = 0 } ≡ runPast key here k next
+  unfolding runPast
+  past-below h = rw (lt-ltb _ _ h)
 
-  pub running-same : x .key ≡ key → record { from = here .from; to = x .next; count = here .count + 1 } ≡ running key here x
-  unfolding running
-  running-same h = rw (le-ltb (x .key) key (omega arith), eq-eqb _ _ h)
+  pub past-same : k ≡ key → record { from = here .from; to = next; count = here .count + 1 } ≡ runPast key here k next
+  unfolding runPast
+  past-same h = rw (le-ltb k key (omega arith), eq-eqb _ _ h)
 
-  pub running-above : key ≤ x .key → (x .key ≡ key → ⊥) → here ≡ running key here x
-  unfolding running
-  running-above h z = rw (le-ltb _ _ h, ne-eqb _ _ z)
+  pub past-above : key ≤ k → (k ≡ key → ⊥) → here ≡ runPast key here k next
+  unfolding runPast
+  past-above h z = rw (le-ltb _ _ h, ne-eqb _ _ z)
 
-  pub running-count : {r : Run} → r ≡ running key here x → r .count ≤ here .count + 1
-  unfolding running
-  running-count e = rw e (by-tests (ltb (x .key) key) (eqb (x .key) key))
+  pub past-count : {r : Run} → r ≡ runPast key here k next → r .count ≤ here .count + 1
+  unfolding runPast
+  past-count e = rw e (by-tests (ltb k key) (eqb k key))
     where
-      by-tests : (a b : Bool) → pick a (record { from = x .next; to = x .next; count = 0 }) (pick b (record { from = here .from; to = x .next; count = here .count + 1 }) here) .count ≤ here .count + 1
+      by-tests : (a b : Bool) → pick a (record { from = next; to = next; count = 0 }) (pick b (record { from = here .from; to = next; count = here .count + 1 }) here) .count ≤ here .count + 1
       by-tests true b = omega arith
       by-tests false true = omega arith
       by-tests false false = omega arith
+
+module _ (key : ℕ) (here : Run) (x : Cell) where
+  pub running-past : {r : Run} {k next : ℕ} → k ≡ x .key → next ≡ x .next → r ≡ runPast key here k next → r ≡ running key here x
+  unfolding running
+  running-past u v q = q ∙ rw (u, v)
+
+  pub running-below : x .key < key → record { from = x .next; to = x .next; count = 0 } ≡ running key here x
+  unfolding running
+  running-below h = past-below key here (x .key) (x .next) h
+
+  pub running-same : x .key ≡ key → record { from = here .from; to = x .next; count = here .count + 1 } ≡ running key here x
+  unfolding running
+  running-same h = past-same key here (x .key) (x .next) h
+
+  pub running-above : key ≤ x .key → (x .key ≡ key → ⊥) → here ≡ running key here x
+  unfolding running
+  running-above h z = past-above key here (x .key) (x .next) h z

@@ -1,12 +1,11 @@
+pub mod Bytes
 pub mod Walking
 pub mod Rowing
 pub mod Finding
 pub mod Placing
 pub mod Cutting
 pub mod CutFacts
-pub mod Editing
-pub mod Dividing
-pub mod EditFacts
-pub mod Sweeping
-pub mod VacuumFacts
+pub mod Chain
+pub mod Placed
+pub mod RowFacts
 pub mod Choosing

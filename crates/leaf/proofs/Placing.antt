@@ -13,7 +13,7 @@ use Rattle.row.specs.declared.Cell.{Cell}
 use Rattle.row.specs.declared.read.CellRead.{CellRead}
 use Rattle.row.proofs.Exact.{cell-placed}
 use Rattle.leaf.specs.Cells.{onCell, cellsOf, inOrder}
-use Rattle.leaf.specs.Place.{placeStep, largerSide, betterCut, cutStep, cutAfter, cutOf, sizesOf, cutLeaf, cutFits, uncut}
+use Rattle.leaf.specs.Place.{pastCell, placeStep, largerSide, betterCut, cutStep, cutAfter, cutOf, sizesOf, cutLeaf, cutFits, uncut}
 use Rattle.leaf.specs.declared.place.Place.{Place}
 use Rattle.leaf.specs.declared.place.Cut.{Cut}
 use Rattle.leaf.specs.declared.place.Cutting.{Cutting}
@@ -27,13 +27,17 @@ module _ {b r : Bool} (x y : Place) (e : b ≡ r) where
   pub past-not : b ≡ false → y ≡ pick r x y
   past-not t = rw (sym e ∙ t)
 
-module _ (key creator : ℕ) (here : Place) (x : Cell) where
-  pub place-count : {r : Place} → r ≡ placeStep key creator here x → r .before ≤ here .before + 1
-  place-count e = rw e (by-test (inOrder (x .key) (x .version .creator) key creator))
+module _ (key creator : ℕ) (here : Place) where
+  pub place-count : {r : Place} (k c next : ℕ) → r ≡ pastCell key creator here k c next → r .before ≤ here .before + 1
+  place-count k c next e = rw e (by-test (inOrder k c key creator))
     where
-      by-test : (b : Bool) → pick b (record { at = x .next; before = here .before + 1 }) here .before ≤ here .before + 1
+      by-test : (b : Bool) → pick b (record { at = next; before = here .before + 1 }) here .before ≤ here .before + 1
       by-test true = omega arith
       by-test false = omega arith
+
+  pub place-past : {r : Place} {k c next : ℕ} (x : Cell) → k ≡ x .key → c ≡ x .version .creator → next ≡ x .next → r ≡ pastCell key creator here k c next
+      → r ≡ placeStep key creator here x
+  place-past x u v w q = q ∙ rw (u, v, w)
 
 -- ---- one choice
 

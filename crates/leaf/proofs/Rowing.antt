@@ -1,7 +1,7 @@
 -- Rows and bytes of a leaf, both ways: rows that are written are read back, and the bytes of cells that are read are the
 -- rows'; and the judgement said over rows. Assumes nothing.
 use mathlib.Core.Path.{_≡_, refl, ap, _∙_}
-use mathlib.Core.List.{List, [], _∷_, _++_, map}
+use mathlib.Core.List.{List, [], _∷_, _++_, map, append-assoc}
 use Prim.Native.Nat.{ℕ, zero, suc, _+_, _-_, _≤_}
 use native.Mathlib.Omega.{arith}
 use lib.ListN.{length, length-append}
@@ -45,6 +45,11 @@ rows-cons r rs = refl
 
 pub length-rows : (r : Row) (rs : List Row) → length (rowsBytes (r ∷ rs)) ≡ rowSize r + length (rowsBytes rs)
 length-rows r rs = rw (rows-cons, length-append, length-cell)
+
+pub rows-append : (xs ys : List Row) → rowsBytes (xs ++ ys) ≡ rowsBytes xs ++ rowsBytes ys
+unfolding rowsBytes
+rows-append [] ys = refl
+rows-append (x ∷ xs) ys = rw (rows-append xs ys) (simp append-assoc)
 
 pub rows-read : (s : List ℕ) (rs : List Row) (at : ℕ) → AllFit rs → at + length (rowsBytes rs) ≤ length s → part at (length (rowsBytes rs)) s ≡ rowsBytes rs
     → rowsOf (length rs) at s ≡ rs

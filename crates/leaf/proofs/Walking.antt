@@ -2,21 +2,23 @@
 -- loop, and the law that it is the judgement and then the fold. Assumes nothing.
 use mathlib.Core.Path.{_≡_, refl, sym, ap, _∙_}
 use mathlib.Core.Bool.{Bool, true, false}
+use mathlib.Core.Logic.{_⊎_, inl, inr, ⊎-elim}
 use mathlib.Core.List.{List, [], _∷_}
-use Prim.Native.Nat.{ℕ, zero, suc, _-_, _≤_, _<_}
+use Prim.Native.Nat.{ℕ, zero, suc, _+_, _-_, _≤_, _<_}
 use native.Mathlib.Omega.{arith}
 use lib.ListN.{length}
 use borrow.Author.Tests.{lt-ltb, le-ltb, eq-eqb, ne-eqb}
 use lib.Dec.{leb}
 use Rattle.store.specs.Pick.{pick}
 use Rattle.page.specs.Header.{nodeType, cellCount}
-use Rattle.row.specs.Read.{cellAt}
+use Rattle.row.specs.Read.{cellAt, endOf, endAt}
+use Rattle.store.specs.Le.{leAt}
+use Rattle.page.specs.Key.{rankAt}
 use Rattle.row.specs.declared.Cell.{Cell}
 use Rattle.row.specs.declared.Fault.{Fault}
 use Rattle.row.specs.declared.read.CellRead.{CellRead}
-use Rattle.leaf.specs.Cells.{onCell, cellsOf, foldCells, inOrder, structural, cellFault, stepOf, onStep, judgeCells, judgeLeaf, onJudged}
-use Rattle.row.proofs.Exact.{cell-placed}
-use Rattle.leaf.specs.declared.Step.{Step}
+use Rattle.leaf.specs.Cells.{Step, onCell, cellsOf, foldCells, inOrder, structural, cellFault, stepOf, onStep, stepEnd, stepFault, judgeCells, judgeLeaf, onJudged}
+use Rattle.row.proofs.Exact.{cell-placed, cell-fields}
 use Rattle.leaf.specs.declared.Judged.{Judged}
 
 -- where the walk ended, the last key, and what the fold gave; or the first fault
@@ -68,9 +70,6 @@ module _ (s : List ℕ) (p k c at : ℕ) where
   pub step-cell : {r : Step} {x : Cell} → r ≡ stepOf p k c at s → r ≡ Step.Got x → (cellAt s at ≡ CellRead.Got x) × (inOrder k c (x .key) (x .version .creator) ≡ true)
   unfolding stepOf
   step-cell e q = step-got (cellAt s at) (sym e ∙ q)
-
-  pub step-next : {r : Step} {x : Cell} → r ≡ stepOf p k c at s → r ≡ Step.Got x → x .next ≤ length s
-  step-next {r} {x} e q = cell-placed s at x (step-cell e q .0) .inside
 
 -- one pass is the judgement and then the fold
 pub walk-is : {A : Type 0} (f : A → Cell → A) (s : List ℕ) (p k c n at : ℕ) (a : A)
@@ -145,19 +144,142 @@ module _ (k₀ c₀ k c : ℕ) where
 -- ---- a step
 
 module _ (s : List ℕ) (p k c at : ℕ) where
-  pub step-bad : {r : CellRead} {kind : ℕ} {f : Fault} → r ≡ cellAt s at → r ≡ CellRead.Bad kind → f ≡ cellFault p at kind → Step.Bad f ≡ stepOf p k c at s
-  unfolding stepOf
-  step-bad e q u = rw (sym e ∙ q, u)
-
   pub step-in : {r : CellRead} {x : Cell} {b : Bool} → r ≡ cellAt s at → r ≡ CellRead.Got x → b ≡ inOrder k c (x .key) (x .version .creator) → b ≡ true
       → Step.Got x ≡ stepOf p k c at s
   unfolding stepOf
   step-in e q u t = rw (sym e ∙ q, sym u ∙ t)
 
-  pub step-out : {r : CellRead} {x : Cell} {b : Bool} {f : Fault} → r ≡ cellAt s at → r ≡ CellRead.Got x → b ≡ inOrder k c (x .key) (x .version .creator) → b ≡ false
-      → f ≡ structural p → Step.Bad f ≡ stepOf p k c at s
-  unfolding stepOf
-  step-out e q u t v = rw (sym e ∙ q, sym u ∙ t, v)
+-- ---- a step by where its cell ends
+
+-- the cell there, in order, and its fields that a walk reads
+pub record Stepped (s : List ℕ) (p k c at e : ℕ) : Type 0 where
+  pub cell : Cell
+  pub step : stepOf p k c at s ≡ Step.Got cell
+  pub read : cellAt s at ≡ CellRead.Got cell
+  pub key-is : rankAt s at ≡ cell .key
+  pub creator-is : leAt 8 s (at + 8 + 1) ≡ cell .version .creator
+  pub next-is : e ≡ cell .next
+  pub low : at + 19 ≤ e
+  pub inside : e ≤ length s
+
+end-read : (s : List ℕ) (at : ℕ) {x : Cell} → cellAt s at ≡ CellRead.Got x → at + 19 ≤ x .next
+end-read s at {x} e = let q = cell-placed s at x e in omega (arith, q .past-head, q .whole)
+
+module _ (s : List ℕ) (at : ℕ) {e : ℕ} (is : e ≡ endAt s at) where
+  -- a cell ends past 0
+  pub end-none : e ≡ 0 → (x : Cell) → cellAt s at ≡ CellRead.Got x → ⊥
+  unfolding endAt
+  end-none z x q = let m : e ≡ x .next = is ∙ ap endOf q in omega (arith, end-read s at q)
+
+  pub record Ended : Type 0 where
+    pub cell : Cell
+    pub read : cellAt s at ≡ CellRead.Got cell
+    pub next-is : e ≡ cell .next
+
+  pub end-some : (e ≡ 0 → ⊥) → Ended
+  unfolding endAt
+  end-some h = by-read (cellAt s at) refl is
+    where
+      by-read : (r : CellRead) → cellAt s at ≡ r → e ≡ endOf r → Ended
+      by-read (CellRead.Got x) q m = record { cell = x; read = q; next-is = m }
+      by-read (CellRead.Bad kind) q m = absurd (h m)
+
+  pub end-low : (e ≡ 0 → ⊥) → (at + 19 ≤ e) × (e ≤ length s)
+  end-low h =
+      let d = end-some h in
+      let m = d .next-is in
+      (omega (arith, end-read s at (d .read)), omega (arith, cell-placed s at (d .cell) (d .read) .inside))
+
+module _ (s : List ℕ) (k c at : ℕ) where
+  -- the ways out of `next_end`
+  module _ {e : ℕ} (is : e ≡ endAt s at) where
+    pub step-end-none : e ≡ 0 → 0 ≡ stepEnd k c at s
+    unfolding stepEnd stepOf
+    step-end-none z = by-read (cellAt s at) refl
+      where
+        by-read : (r : CellRead) → cellAt s at ≡ r
+            → 0 ≡ onStep (λ x. x .next) (λ f. 0) (onCell (λ x. pick (inOrder k c (x .key) (x .version .creator)) (Step.Got x) (Step.Bad (structural 0))) (λ kind. Step.Bad (cellFault 0 at kind)) r)
+        by-read (CellRead.Got x) q = absurd (end-none s at is z x q)
+        by-read (CellRead.Bad kind) q = refl
+
+    module _ (some : e ≡ 0 → ⊥) {b : Bool} {k₁ c₁ : ℕ} (key : k₁ ≡ rankAt s at) (creator : c₁ ≡ leAt 8 s (at + 8 + 1)) (order : b ≡ inOrder k c k₁ c₁) where
+      pub step-end-in : b ≡ true → e ≡ stepEnd k c at s
+      unfolding stepEnd stepOf
+      step-end-in t =
+          let d = end-some s at is some in
+          let f = cell-fields s at (d .cell) (d .read) in
+          let o : inOrder k c (d .cell .key) (d .cell .version .creator) ≡ true = rw (f .key-is, f .creator-is, sym key, sym creator) (sym order ∙ t) in
+          d .next-is ∙ rw (d .read, o)
+
+      pub step-end-out : b ≡ false → 0 ≡ stepEnd k c at s
+      unfolding stepEnd stepOf
+      step-end-out t =
+          let d = end-some s at is some in
+          let f = cell-fields s at (d .cell) (d .read) in
+          let o : inOrder k c (d .cell .key) (d .cell .version .creator) ≡ false = rw (f .key-is, f .creator-is, sym key, sym creator) (sym order ∙ t) in
+          rw (d .read, o)
+
+module _ (s : List ℕ) (p at : ℕ) where
+  pub fault-bad : {r : CellRead} {kind : ℕ} {f : Fault} → r ≡ cellAt s at → r ≡ CellRead.Bad kind → f ≡ cellFault p at kind → f ≡ stepFault p at s
+  unfolding stepFault
+  fault-bad e q u = u ∙ rw (sym e ∙ q)
+
+  pub fault-order : {r : CellRead} {x : Cell} {f : Fault} → r ≡ cellAt s at → r ≡ CellRead.Got x → f ≡ structural p → f ≡ stepFault p at s
+  unfolding stepFault
+  fault-order e q u = u ∙ rw (sym e ∙ q)
+
+-- what the end says of the step
+module _ (s : List ℕ) (p k c at : ℕ) {e : ℕ} (is : e ≡ stepEnd k c at s) where
+  by-end : (r : CellRead) → cellAt s at ≡ r
+      → e ≡ onStep (λ x. x .next) (λ f. 0) (onCell (λ x. pick (inOrder k c (x .key) (x .version .creator)) (Step.Got x) (Step.Bad (structural 0))) (λ kind. Step.Bad (cellFault 0 at kind)) r)
+      → ((e ≡ 0) × (stepOf p k c at s ≡ Step.Bad (stepFault p at s))) ⊎ Stepped s p k c at e
+  unfolding stepOf stepFault
+  by-end (CellRead.Bad kind) q m = inl (m, rw q)
+  by-end (CellRead.Got x) q m = by-order (inOrder k c (x .key) (x .version .creator)) refl m
+    where
+      by-order : (b : Bool) → inOrder k c (x .key) (x .version .creator) ≡ b → e ≡ onStep (λ y. y .next) (λ f. 0) (pick b (Step.Got x) (Step.Bad (structural 0)))
+          → ((e ≡ 0) × (stepOf p k c at s ≡ Step.Bad (stepFault p at s))) ⊎ Stepped s p k c at e
+      by-order false t n = inl (n, rw (q, t))
+      by-order true t n =
+          let f = cell-fields s at x q in
+          inr
+          (record {
+            cell = x;
+            step = rw (q, t);
+            read = q;
+            key-is = sym (f .key-is);
+            creator-is = sym (f .creator-is);
+            next-is = n;
+            low = rw n (end-read s at q);
+            inside = rw n (cell-placed s at x q .inside);
+          })
+
+  pub step-by : ((e ≡ 0) × (stepOf p k c at s ≡ Step.Bad (stepFault p at s))) ⊎ Stepped s p k c at e
+  unfolding stepEnd stepOf
+  step-by = by-end (cellAt s at) refl is
+
+  pub stepped : (e ≡ 0 → ⊥) → Stepped s p k c at e
+  stepped h = ⊎-elim (λ w. absurd (h (w .0))) (λ w. w) step-by
+
+  pub unstepped : e ≡ 0 → stepOf p k c at s ≡ Step.Bad (stepFault p at s)
+  unstepped z = ⊎-elim (λ w. w .1) (λ w. absurd (omega (arith, w .low))) step-by
+
+walk-same : {A : Type 0} (f : A → Cell → A) (s : List ℕ) (p m : ℕ) (a : A) {k k' c c' e e' : ℕ} → k ≡ k' → c ≡ c' → e ≡ e' → walk f p k c m e a s ≡ walk f p k' c' m e' a s
+walk-same f s p m a u v w = rw (u, v, w)
+
+-- the walk by the end alone
+module _ {A : Type 0} (f : A → Cell → A) (s : List ℕ) (p k c at : ℕ) (a : A) {e : ℕ} (is : e ≡ stepEnd k c at s) where
+  pub walk-stuck : (n : ℕ) {g : Fault} → 0 < n → e ≡ 0 → g ≡ stepFault p at s → walk f p k c n at a s ≡ bad g
+  walk-stuck n h z q = walk-bad f s p k c at a n h refl (unstepped s p k c at is z ∙ ap (λ (y : Fault). Step.Bad y) (sym q))
+
+  pub walk-on : (n : ℕ) {k₁ c₁ : ℕ} {y : A} → 0 < n → (e ≡ 0 → ⊥) → k₁ ≡ rankAt s at → c₁ ≡ leAt 8 s (at + 8 + 1)
+      → ((x : Cell) → cellAt s at ≡ CellRead.Got x → rankAt s at ≡ x .key → leAt 8 s (at + 8 + 1) ≡ x .version .creator → e ≡ x .next → y ≡ f a x)
+      → walk f p k₁ c₁ (n - 1) e y s ≡ walk f p k c n at a s
+  walk-on n {k₁} {c₁} {y} h some key creator step =
+      let d = stepped s p k c at is some in
+      let x = d .cell in
+      walk-same f s p (n - 1) y (key ∙ d .key-is) (creator ∙ d .creator-is) (d .next-is)
+      ∙ (walk-in f s p k c at a n h refl (d .step) (step x (d .read) (d .key-is) (d .creator-is) (d .next-is)))
 
 -- ---- the page
 

@@ -10,7 +10,6 @@ use Rattle.row.specs.Read.{cellAt}
 use Rattle.row.specs.declared.Cell.{Cell}
 use Rattle.row.specs.declared.Fault.{Fault}
 use Rattle.row.specs.declared.read.CellRead.{CellRead}
-use Rattle.leaf.specs.declared.Step.{Step}
 use Rattle.leaf.specs.declared.Judged.{Judged}
 
 -- go on with what was read
@@ -43,6 +42,11 @@ structural p = record { kind = 0; page = p; offset = 0 }
 abbrev pub cellFault : (p at kind : ℕ) → Fault
 cellFault p at kind = record { kind = kind; page = p; offset = at }
 
+-- the next cell of a walk, or the fault that ends it
+pub data Step : Type 0 where
+  Got : Cell → Step
+  Bad : Fault → Step
+
 -- the cell at `at`, after one of key k and creator c; or its fault
 unfoldable pub stepOf : (p k c at : ℕ) → List ℕ → Step
 stepOf p k c at s =
@@ -51,6 +55,13 @@ stepOf p k c at s =
 abbrev pub onStep : {A : Type 0} → (Cell → A) → (Fault → A) → Step → A
 onStep good ill (Step.Got x) = good x
 onStep good ill (Step.Bad f) = ill f
+
+-- where that cell ends, and 0 for a fault; and the fault of a cell after which a walk cannot go on
+unfoldable pub stepEnd : (k c at : ℕ) → List ℕ → ℕ
+stepEnd k c at s = onStep (λ x. x .next) (λ f. 0) (stepOf 0 k c at s)
+
+unfoldable pub stepFault : (p at : ℕ) → List ℕ → Fault
+stepFault p at s = onCell (λ x. structural p) (λ kind. cellFault p at kind) (cellAt s at)
 
 -- n cells from `at` on, after one of key k and creator c
 unfoldable pub judgeCells : (p k c n at : ℕ) → List ℕ → Judged

@@ -46,10 +46,13 @@ testLeaf claiming st active xmax cur p seen key found pg =
 
 -- the run of a key's cells, which stand together: where it starts and ends, and how many they are. Cells of a smaller key
 -- move both ends.
+unfoldable pub runPast : ℕ → Run → (k next : ℕ) → Run
+runPast key here k next =
+    pick (ltb k key) (record { from = next; to = next; count = 0 })
+    (pick (eqb k key) (record { from = here .from; to = next; count = here .count + 1 }) here)
+
 unfoldable pub running : ℕ → Run → Cell → Run
-running key here c =
-    pick (ltb (c .key) key) (record { from = c .next; to = c .next; count = 0 })
-    (pick (eqb (c .key) key) (record { from = here .from; to = c .next; count = here .count + 1 }) here)
+running key here c = runPast key here (c .key) (c .next)
 
 unfoldable pub runLeaf : (p key : ℕ) → List ℕ → LeafRun
 runLeaf p key pg =

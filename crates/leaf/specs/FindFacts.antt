@@ -1,7 +1,7 @@
 -- What a lookup chooses in a leaf (document 01, section 4: "the largest visible creator; on a tie the last in chain order",
 -- P9's first half), and that a judgement's yes does not depend on the page's number.
 use mathlib.Core.Path.{_≡_}
-use mathlib.Core.Bool.{true, false}
+use mathlib.Core.Bool.{true}
 use mathlib.Core.List.{List, [], _∷_, _++_}
 use Prim.Native.Nat.{ℕ, _≤_, _<_}
 use Rattle.mvcc.specs.Rules.{visible}

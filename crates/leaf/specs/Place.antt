@@ -12,9 +12,12 @@ use Rattle.leaf.specs.declared.place.LeafPlace.{LeafPlace}
 use Rattle.leaf.specs.declared.place.Cut.{Cut}
 use Rattle.leaf.specs.declared.place.Cutting.{Cutting}
 
--- past a cell that is not after key k and creator c; no other moves the place
+-- past a cell of key k₁ and creator c₁ that is not after key k and creator c, and ends at next; no other moves the place
+abbrev pub pastCell : (k c : ℕ) → Place → (k₁ c₁ next : ℕ) → Place
+pastCell k c here k₁ c₁ next = pick (inOrder k₁ c₁ k c) (record { at = next; before = here .before + 1 }) here
+
 abbrev pub placeStep : (k c : ℕ) → Place → Cell → Place
-placeStep k c here x = pick (inOrder (x .key) (x .version .creator) k c) (record { at = x .next; before = here .before + 1 }) here
+placeStep k c here x = pastCell k c here (x .key) (x .version .creator) (x .next)
 
 -- the offset past the last such cell, and how many cells stand before it; cells start at 12
 unfoldable pub placeOf : (k c : ℕ) → List Cell → Place

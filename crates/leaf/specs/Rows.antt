@@ -3,7 +3,7 @@
 -- the count; bytes 8 to 11 stay").
 use mathlib.Core.List.{List, [], _∷_, _++_, map}
 use mathlib.Core.Bool.{Bool, true, _&&_}
-use Prim.Native.Nat.{ℕ, _+_, _≤_, _<_}
+use Prim.Native.Nat.{ℕ, _≤_, _<_}
 use lib.ListN.{length}
 use Rattle.store.specs.Part.{part, pad}
 use Rattle.page.specs.Header.{cellCount, withCount}

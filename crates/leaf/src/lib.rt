@@ -1,23 +1,13 @@
-// One leaf page (document 01, sections 2, 3 and 5; btree.rs): its judgement. Module place says where a new cell goes and
-// where a leaf is cut, module edit changes a page in place.
-pub mod divide;
-pub mod edit;
+// One leaf page (document 01, sections 2, 3 and 5; btree.rs): its judgement. Module find looks for something in it, module
+// place says where a new cell goes and where a leaf is cut. Crate `edits` changes a page.
 pub mod find;
 pub mod place;
-pub mod vacuum;
 
 ghost use mathlib.Core.Path.{_≡_};
 ghost use Prim.Native.Nat.{_<_};
 ghost use lib.ListN.{length};
-ghost use Rattle.leaf.specs.Cells.{inOrder, structural, cellFault, stepOf, judgeCells, judgeLeaf};
-use row::Cell;
+ghost use Rattle.leaf.specs.Cells.{inOrder, structural, cellFault, stepEnd, stepFault, judgeCells, judgeLeaf};
 use row::Fault;
-
-// The next cell of a walk, or the fault that ends it.
-pub enum Step {
-    Got(Cell),
-    Bad(Fault),
-}
 
 // Where the cells end, or the first fault in reading order.
 pub enum Judged {
@@ -58,20 +48,34 @@ pub fn cell_fault(p: u32, at: usize, kind: u8) -> Fault
     }
 }
 
-// The cell at `at`, after one of key k and creator c: every walk over a leaf goes by this, so that it judges as it reads.
-pub fn next_cell(pg: &[u8], p: u32, k: u32, c: u64, at: usize) -> Step
+// Where the cell at `at` ends, after one of key k and creator c; 0 where it is no cell or not in order. Every walk over
+// a leaf goes by this, so that it judges as it reads; a cell is read whole only where more of it is asked.
+pub fn next_end(pg: &[u8], k: u32, c: u64, at: usize) -> usize
+    ensures { λ r. ⌜ r ≡ stepEnd k c at (now (pg .entry)) ⌝ }
+{
+    let end = row::read::cell_end(pg, at);
+    if end == 0 {
+        return 0;
+    }
+    if in_order(
+        k,
+        c,
+        page::key::get_rank(pg, at),
+        row::read::creator_at(pg, at),
+    ) {
+        return end;
+    }
+    0
+}
+
+// The fault at which a walk ends.
+pub fn fault_at(pg: &[u8], p: u32, at: usize) -> Fault
     requires { ⌜ at < 65536 ⌝ }
-    ensures { λ r. ⌜ r ≡ stepOf p k c at (now (pg .entry)) ⌝ }
+    ensures { λ r. ⌜ r ≡ stepFault p at (now (pg .entry)) ⌝ }
 {
     match row::read::read_cell(pg, at) {
-        row::read::CellRead::Bad(kind) => Step::Bad(cell_fault(p, at, kind)),
-        row::read::CellRead::Got(x) => {
-            let v = x.version;
-            if in_order(k, c, x.key, v.creator) {
-                return Step::Got(x);
-            }
-            Step::Bad(structural_fault(p))
-        }
+        row::read::CellRead::Bad(kind) => cell_fault(p, at, kind),
+        row::read::CellRead::Got(_) => structural_fault(p),
     }
 }
 
@@ -84,15 +88,13 @@ fn judge_cells(pg: &[u8], p: u32, n: usize) -> Judged
     let mut k: u32 = 0;
     let mut c: u64 = 0;
     while 0 < left {
-        match next_cell(pg, p, k, c, at) {
-            Step::Bad(f) => return Judged::Bad(f),
-            Step::Got(x) => {
-                let v = x.version;
-                k = x.key;
-                c = v.creator;
-                at = x.next;
-            }
+        let end = next_end(pg, k, c, at);
+        if end == 0 {
+            return Judged::Bad(fault_at(pg, p, at));
         }
+        k = page::key::get_rank(pg, at);
+        c = row::read::creator_at(pg, at);
+        at = end;
         left -= 1;
     }
     Judged::Ok(at)

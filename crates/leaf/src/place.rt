@@ -3,9 +3,7 @@ ghost use mathlib.Core.Path.{_≡_};
 ghost use Prim.Native.Nat.{_≤_, _<_};
 ghost use lib.ListN.{length};
 ghost use Rattle.leaf.specs.Cells.{cellsOf};
-ghost use Rattle.leaf.specs.Place.{placeStep, placeLeaf, largerSide, betterCut, cutStep, cutAfter, sizesOf, cutLeaf, cutFits};
-use crate::Step;
-use row::Cell;
+ghost use Rattle.leaf.specs.Place.{pastCell, placeLeaf, largerSide, betterCut, cutStep, cutAfter, sizesOf, cutLeaf, cutFits};
 use row::Fault;
 
 // The offset of a new cell, and how many cells stand before it.
@@ -32,14 +30,13 @@ pub struct Cutting {
     pub best: Cut,
 }
 
-fn past(key: u32, creator: u64, here: Place, x: Cell) -> Place
+fn past(key: u32, creator: u64, here: Place, k: u32, c: u64, next: usize) -> Place
     requires { ⌜ here .before < 65536 ⌝ }
-    ensures { λ r. ⌜ r ≡ placeStep key creator here x ⌝ }
+    ensures { λ r. ⌜ r ≡ pastCell key creator here k c next ⌝ }
 {
-    let v = x.version;
-    if crate::in_order(x.key, v.creator, key, creator) {
+    if crate::in_order(k, c, key, creator) {
         let before = here.before + 1;
-        return Place { at: x.next, before };
+        return Place { at: next, before };
     }
     here
 }
@@ -58,16 +55,14 @@ pub fn place_in_leaf(pg: &[u8], p: u32, key: u32, creator: u64) -> LeafPlace
     let mut c: u64 = 0;
     let mut here = Place { at: 12, before: 0 };
     while 0 < left {
-        match crate::next_cell(pg, p, k, c, at) {
-            Step::Bad(f) => return LeafPlace::Bad(f),
-            Step::Got(x) => {
-                let v = x.version;
-                here = past(key, creator, here, x);
-                k = x.key;
-                c = v.creator;
-                at = x.next;
-            }
+        let end = crate::next_end(pg, k, c, at);
+        if end == 0 {
+            return LeafPlace::Bad(crate::fault_at(pg, p, at));
         }
+        k = page::key::get_rank(pg, at);
+        c = row::read::creator_at(pg, at);
+        here = past(key, creator, here, k, c, end);
+        at = end;
         left -= 1;
     }
     LeafPlace::Ok(here, at)

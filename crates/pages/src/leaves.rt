@@ -1,5 +1,5 @@
-// A call on one leaf by the functions of `leaf` (document 01, sections 2 and 5). What such a function requires is tested
-// before it is called, so that a list or a page that is not as it should be is counted as a fault.
+// A call on one leaf by the functions of `leaf` and `edits` (document 01, sections 2 and 5). What such a function requires
+// is tested before it is called, so that a list or a page that is not as it should be is counted as a fault.
 ghost use mathlib.Core.Path.{_≡_};
 ghost use Prim.Native.Nat.{_+_, _≤_, _<_};
 ghost use lib.ListN.{length};
@@ -77,7 +77,7 @@ fn insert_here(pg: &mut [u8], p: u32, h: Head, body: &[u8]) -> bool
     if PAGE_SIZE - e < m {
         return false;
     }
-    leaf::edit::insert_cell(pg, at, e, n, h.key, h.creator, stamp, pointer, body);
+    edits::edit::insert_cell(pg, at, e, n, h.key, h.creator, stamp, pointer, body);
     true
 }
 
@@ -103,7 +103,7 @@ fn divide_right(
     let by = h.creator;
     let stamp = h.stamp;
     let pointer = h.pointer;
-    leaf::divide::insert_divide_right(pool, p, q, at, e, n, cut, key, by, stamp, pointer, body);
+    edits::divide::insert_divide_right(pool, p, q, at, e, n, cut, key, by, stamp, pointer, body);
     apart(tally::INSERTED_RIGHT)
 }
 
@@ -129,7 +129,7 @@ fn divide_left(
     let by = h.creator;
     let stamp = h.stamp;
     let pointer = h.pointer;
-    leaf::divide::insert_divide_left(pool, p, q, at, e, n, cut, key, by, stamp, pointer, body);
+    edits::divide::insert_divide_left(pool, p, q, at, e, n, cut, key, by, stamp, pointer, body);
     apart(tally::INSERTED_LEFT)
 }
 
@@ -282,14 +282,14 @@ fn stamp_here(pg: &mut [u8], p: u32, at: usize, d: u64) -> usize
     let stamp = v.stamp;
     match stamp {
         Stamp::By(_) => {
-            leaf::edit::stamp_cell(pg, e, c, d);
+            edits::edit::stamp_cell(pg, e, c, d);
             tally::RESTAMPED
         }
         Stamp::Absent => {
             if PAGE_SIZE - e < 8 {
                 return tally::PLACES;
             }
-            leaf::edit::stamp_cell(pg, e, c, d);
+            edits::edit::stamp_cell(pg, e, c, d);
             tally::GROWN
         }
     }
@@ -316,14 +316,14 @@ fn stamp_side(
     }
     if x.next + 8 <= c {
         if c <= e + 8 {
-            leaf::divide::stamp_divide_left(pool, p, q, e, n, cut, x, d);
+            edits::divide::stamp_divide_left(pool, p, q, e, n, cut, x, d);
             return apart(tally::STAMPED_LEFT);
         }
     }
     if c <= x.at {
         if x.next <= e {
             if e <= 4076 + c {
-                leaf::divide::stamp_divide_right(pool, p, q, e, n, cut, x, d);
+                edits::divide::stamp_divide_right(pool, p, q, e, n, cut, x, d);
                 return apart(tally::STAMPED_RIGHT);
             }
         }
@@ -512,7 +512,7 @@ pub fn remove(pg: &mut [u8], p: u32, key: u32) -> Dropped
     if n < count {
         return no_drop(tally::FAULT);
     }
-    leaf::edit::take_out(pg, a, b, count, e, n);
+    edits::edit::take_out(pg, a, b, count, e, n);
     Dropped {
         place: tally::REMOVED,
         count,
@@ -529,7 +529,7 @@ pub fn vacuum(pg: &mut [u8], bound: u64) -> Dropped
         let Judged::Ok(e) = leaf::judge_leaf(pg, 0) else {
             return no_drop(tally::FAULT);
         };
-        let v = leaf::vacuum::vacuum_leaf(pg, &ids, &states, bound, e, n);
+        let v = edits::vacuum::vacuum_leaf(pg, &ids, &states, bound, e, n);
         let place = if v.changed {
             tally::VACUUMED
         } else {

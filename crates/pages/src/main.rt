@@ -1,6 +1,6 @@
-// Replays the recorded pages (standard input; its header says what a line means) against the page functions of `leaf`
-// and `inner`. The program's own pool is made by these functions alone, the other one is put together from the list,
-// and after each case every byte of the pages in use is compared.
+// Replays the recorded pages (standard input; its header says what a line means) against the page functions of `leaf`,
+// `edits` and `inner`. The program's own pool is made by these functions alone, the other one is put together from the
+// list, and after each case every byte of the pages in use is compared.
 ghost use mathlib.Core.Path.{_≡_};
 ghost use Prim.Native.Nat.{_≤_, _<_};
 ghost use lib.ListN.{length};

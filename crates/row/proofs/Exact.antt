@@ -208,6 +208,24 @@ cell-placed s at c e =
     subst (CellPlaced s at) (a .same)
     (record { here = refl; inside = a .inside; past-head = omega arith; whole = omega arith; few = few-data s (at + 8) m (a .data-sound) })
 
+-- the fields of a cell that was read, each by its place
+pub record CellFields (s : List ℕ) (at : ℕ) (c : Cell) : Type 0 where
+  pub key-is : c .key ≡ rankAt s at
+  pub creator-is : c .version .creator ≡ leAt 8 s (at + 8 + 1)
+  pub stamp-is : c .version .stamp ≡ stampIn s (at + 8 + 9)
+  pub next-is : c .next ≡ at + 8 + leAt 4 s (at + 4)
+  pub stamp-in : at + 8 + 9 + stampSize (leAt 1 s (at + 8 + 9)) ≤ c .next
+
+pub cell-fields : (s : List ℕ) (at : ℕ) (c : Cell) → cellAt s at ≡ CellRead.Got c → CellFields s at c
+unfolding cellIn
+cell-fields s at c e =
+    let a = accepted s at c e in
+    let m = at + 8 + leAt 4 s (at + 4) in
+    let p = places s (at + 8) in
+    let d = data-within s (at + 8) m (a .head-sound) in
+    let i = stamp-inside s (at + 8) refl in
+    subst (CellFields s at) (a .same) (record { key-is = refl; creator-is = refl; stamp-is = refl; next-is = refl; stamp-in = omega arith })
+
 and-right : (a b : Bool) → (a && b) ≡ false → a ≡ true → b ≡ false
 and-right true b e t = e
 and-right false b e t = absurd (let z : _≡_ {A = ℕ} 0 1 = cc in omega arith)

@@ -1,5 +1,5 @@
 -- The ways out of the reader, one law each, and what a cell that was read gives the caller. Assumes nothing.
-use mathlib.Core.Path.{_≡_, refl, sym, _∙_}
+use mathlib.Core.Path.{_≡_, refl, sym, ap, _∙_}
 use mathlib.Core.Bool.{Bool, true, false, not, _&&_, _||_}
 use mathlib.Core.List.{List}
 use Prim.Native.Nat.{ℕ, zero, suc, _+_, _-_, _≤_, _<_}
@@ -10,7 +10,7 @@ use lib.ListN.{length}
 use Rattle.store.specs.Pick.{pick}
 use Rattle.store.specs.Le.{leAt}
 use Rattle.page.specs.Key.{rankAt}
-use Rattle.row.specs.Read.{stampSize, pointerSize, stampIn, pointerIn, pointerPlace, dataPlace, flagBad, headFault, dataFault, orHead, orCell, headAt, cellIn, payloadAt, cellAt}
+use Rattle.row.specs.Read.{stampSize, pointerSize, stampIn, pointerIn, pointerPlace, dataPlace, flagBad, headFault, dataFault, orHead, orCell, headAt, cellIn, payloadAt, cellAt, endOf, endAt}
 use Rattle.row.specs.declared.Stamp.{Stamp}
 use Rattle.row.specs.declared.Pointer.{Pointer}
 use Rattle.row.specs.declared.read.HeadRead.{HeadRead}
@@ -229,3 +229,37 @@ module _ (s : List ℕ) (at : ℕ) where
   pub cell-whole : {n : ℕ} {r : CellRead} → at + 8 ≤ length s → n ≡ leAt 4 s (at + 4) → n ≤ length s - (at + 8) → r ≡ payloadAt s at (at + 8 + n) false → r ≡ cellAt s at
   unfolding cellAt
   cell-whole h q l e = e ∙ rw (le-leb (at + 8) (length s) h, le-leb (at + 8 + leAt 4 s (at + 4)) (length s) (omega arith), q)
+
+-- ---- where a cell ends
+
+or-end : (f : ℕ) → 0 ≡ endOf (orCell f (CellRead.Bad 3))
+or-end zero = refl
+or-end (suc f) = refl
+
+module _ (s : List ℕ) (at : ℕ) where
+  pub end-short : length s < at + 8 → 0 ≡ endAt s at
+  unfolding endAt
+  end-short h = ap endOf (cell-short s at h)
+
+  past-end : (m : ℕ) → 0 ≡ endOf (payloadAt s at m true)
+  unfolding payloadAt dataFault
+  past-end m = or-end (headFault s (at + 8) m)
+
+  pub end-past : {n : ℕ} → at + 8 ≤ length s → n ≡ leAt 4 s (at + 4) → length s - (at + 8) < n → 0 ≡ endAt s at
+  unfolding endAt
+  end-past h q l = past-end (length s) ∙ ap endOf (cell-past s at {r = payloadAt s at (length s) true} h (omega (arith, q, l)) refl)
+
+  module _ {n : ℕ} (here : at + 8 ≤ length s) (is : n ≡ leAt 4 s (at + 4)) (room : n ≤ length s - (at + 8)) {r : HeadRead} (head : r ≡ headAt s (at + 8) (at + 8 + n)) where
+    pub end-bad : {j : ℕ} → r ≡ HeadRead.Bad j → 0 ≡ endAt s at
+    unfolding endAt
+    end-bad e = ap endOf (cell-whole s at here is room (payload-bad s at (at + 8 + n) false head e))
+
+    module _ {j k : ℕ} (got : r ≡ HeadRead.Got j k) where
+      pub end-long : 4051 < at + 8 + n - k → 0 ≡ endAt s at
+      unfolding endAt
+      end-long l = ap endOf (cell-whole s at here is room (payload-long s at (at + 8 + n) (head-is s (at + 8) (at + 8 + n) head got) refl l))
+
+      pub end-there : at + 8 + n - k ≤ 4051 → at + 8 + n ≡ endAt s at
+      unfolding endAt
+      end-there l =
+          ap endOf (cell-whole s at here is room (payload-cell s at (at + 8 + n) (head-is s (at + 8) (at + 8 + n) head got) refl l refl refl refl refl))

@@ -90,3 +90,11 @@ cellAt s at =
     (payloadAt s at (at + 8 + leAt 4 s (at + 4)) false)
     (payloadAt s at (length s) true))
     (CellRead.Bad 3)
+
+-- where the cell at an offset ends; 0 for none
+abbrev pub endOf : CellRead → ℕ
+endOf (CellRead.Got c) = c .next
+endOf (CellRead.Bad kind) = 0
+
+unfoldable pub endAt : List ℕ → ℕ → ℕ
+endAt s at = endOf (cellAt s at)

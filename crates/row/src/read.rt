@@ -4,7 +4,7 @@ ghost use mathlib.Core.Path.{_≡_};
 ghost use Prim.Native.Nat.{_+_, _≤_};
 ghost use lib.ListN.{length};
 ghost use Rattle.store.specs.Le.{leAt};
-ghost use Rattle.row.specs.Read.{stampSize, pointerSize, stampIn, pointerIn, headAt, payloadAt, cellAt};
+ghost use Rattle.row.specs.Read.{stampSize, pointerSize, stampIn, pointerIn, headAt, payloadAt, cellAt, endAt};
 use crate::Cell;
 use crate::FORMAT_VERSION;
 use crate::MAX_DATA;
@@ -137,4 +137,53 @@ pub fn read_cell(s: &[u8], at: usize) -> CellRead
         return payload_at(s, at, s.len(), true);
     }
     payload_at(s, at, i + n, false)
+}
+
+// Where the cell ends, and 0 for none that can be read: a walk judges by this, and does not build the cell.
+pub fn cell_end(s: &[u8], at: usize) -> usize
+    ensures { λ r. ⌜ r ≡ endAt (now (s .entry)) at ⌝ }
+{
+    if s.len() < 8 {
+        return 0;
+    }
+    if s.len() - 8 < at {
+        return 0;
+    }
+    let n = store::get32(s, at + 4) as usize;
+    let i = at + 8;
+    if s.len() - i < n {
+        return 0;
+    }
+    let m = i + n;
+    match head_at(s, i, m) {
+        HeadRead::Bad(_) => 0,
+        HeadRead::Got(_, k) => {
+            if MAX_DATA < m - k {
+                return 0;
+            }
+            m
+        }
+    }
+}
+
+// Fields of a cell that is known to be there, each by itself.
+pub fn next_at(s: &[u8], at: usize) -> usize
+    requires { ⌜ at + 8 + leAt 4 (now s) (at + 4) ≤ length (now s) ⌝ }
+    ensures { λ r. ⌜ r ≡ at + 8 + leAt 4 (now (s .entry)) (at + 4) ⌝ }
+{
+    at + 8 + store::get32(s, at + 4) as usize
+}
+
+pub fn creator_at(s: &[u8], at: usize) -> u64
+    requires { ⌜ at + 17 ≤ length (now s) ⌝ }
+    ensures { λ r. ⌜ r ≡ leAt 8 (now (s .entry)) (at + 8 + 1) ⌝ }
+{
+    store::get64(s, at + 8 + 1)
+}
+
+pub fn stamp_at(s: &[u8], at: usize) -> Stamp
+    requires { ⌜ at + 8 + 9 + stampSize (leAt 1 (now s) (at + 8 + 9)) ≤ length (now s) ⌝ }
+    ensures { λ r. ⌜ r ≡ stampIn (now (s .entry)) (at + 8 + 9) ⌝ }
+{
+    stamp_in(s, at + 8 + 9)
 }

@@ -19,77 +19,81 @@ use Rattle.listing.specs.Records.{records}
 use Rattle.listing.specs.Listed.{Written, written, fitted}
 use Rattle.listing.specs.declared.Listing.{Listing}
 use Rattle.scan.specs.Visible.{chainRows, scanRows, listedVisible, scanTree}
-use Rattle.scan.specs.Fast.{fullSize, passAlong, passBytes, scanAlong, Fits, Whole}
+use Rattle.scan.specs.Fast.{boundAlong, passAlong, passBytes, passed, Through, Fits}
 use Rattle.scan.specs.Slow.{slowBytes}
-use Rattle.scan.specs.ScanFacts.{FastIs}
-use Rattle.scan.specs.declared.Scan.{Scan}
-use Rattle.scan.specs.declared.ChainScan.{ChainScan}
-use Rattle.scan.proofs.Measuring.{scan-small, scan-whole}
-use Rattle.scan.proofs.Listing.{fast-lists, faults-agree}
+use Rattle.scan.specs.ScanFacts.{BoundIs, FastIs}
+use Rattle.scan.specs.declared.Bound.{Bound}
+use Rattle.scan.specs.declared.Bounded.{Bounded}
+use Rattle.scan.proofs.Bounding.{along-few}
+use Rattle.scan.proofs.Falling.{bound-tells, faults-agree}
+use Rattle.scan.proofs.Listing.{fast-lists}
 use Rattle.scan.proofs.Slowness.{slow-lists}
 use Rattle.scan.proofs.Fitting.{fitted-short, fitted-done}
 
--- what the first pass measured
-pub list-measured : (st : ℕ → ℕ) (active : List ℕ) (xmax : ℕ) (cur : Current) (used first : ℕ) (s : List ℕ) {r : ChainScan} {sc : Scan} → r ≡ scanAlong st active xmax cur used first s
-    → r ≡ ChainScan.Ok sc → used ≤ 4294967295 → Whole (sc .best) × (sc .size ≤ 9223372036854775807)
-list-measured st active xmax cur used first s said e h =
-    (scan-whole st active xmax cur s used first (sym said ∙ e), omega (arith, scan-small st active xmax cur s used first (sym said ∙ e) h))
-
-module _ (st : ℕ → ℕ) (active : List ℕ) (xmax : ℕ) (cur : Current) (used first : ℕ) (s out : List ℕ) (B : AreBytes s) (room : used * 4096 ≤ length s) {r : ChainScan} (said : r ≡ scanAlong st active xmax cur used first s) where
-  pub list-bad : {f : Fault} → r ≡ ChainScan.Bad f → written (Listing.Bad f) out ≡ listedVisible st active xmax cur out (chainRows used first s)
-  list-bad {f} e = by-told (chainRows used first s) refl
+module _ (st : ℕ → ℕ) (active : List ℕ) (xmax : ℕ) (cur : Current) (used first : ℕ) (s : List ℕ) (B : AreBytes s) (room : used * 4096 ≤ length s) {r : Bounded} (said : r ≡ boundAlong used first s) where
+  pub list-bad : (out : List ℕ) {f : Fault} → r ≡ Bounded.Bad f → written (Listing.Bad f) out ≡ listedVisible st active xmax cur out (chainRows used first s)
+  list-bad out {f} e = by-told (chainRows used first s) refl
     where
       by-told : (t : Told (List Row)) → chainRows used first s ≡ t → written (Listing.Bad f) out ≡ listedVisible st active xmax cur out t
-      by-told (ok rs) q = absurd (let u = sym e ∙ (said ∙ fast-lists st active xmax cur used first s rs B room q .scan) in let z : _≡_ {A = ℕ} 0 1 = cc in omega arith)
+      by-told (ok rs) q = absurd (let u = sym e ∙ (said ∙ bound-tells used first s rs B room q .told) in let z : _≡_ {A = ℕ} 0 1 = cc in omega arith)
       by-told (ill g) q =
-          let u : ChainScan.Bad f ≡ ChainScan.Bad g = sym e ∙ (said ∙ faults-agree st active xmax cur used first s g q) in
+          let u : Bounded.Bad f ≡ Bounded.Bad g = sym e ∙ (said ∙ faults-agree used first s g q) in
           let same : f ≡ g = cc in
           ap (λ (h : Fault). written (Listing.Bad h) out) same
 
-  module _ {sc : Scan} (e : r ≡ ChainScan.Ok sc) where
+  module _ {b : Bound} (e : r ≡ Bounded.Ok b) where
     -- the chain was judged
     record Rows : Type 0 where
       rows : List Row
       told : chainRows used first s ≡ ok rows
+      bound : BoundIs used first s rows
+      bound-is : bound .bound ≡ b
       fast : FastIs st active xmax cur used first s rows
-      scan-is : fast .end .scan ≡ sc
 
     judged : Rows
     judged = by-told (chainRows used first s) refl
       where
         by-told : (t : Told (List Row)) → chainRows used first s ≡ t → Rows
         by-told (ok rs) q =
-            let f = fast-lists st active xmax cur used first s rs B room q in
-            let u : ChainScan.Ok (f .end .scan) ≡ ChainScan.Ok sc = sym (f .scan) ∙ (sym said ∙ e) in
-            record { rows = rs; told = q; fast = f; scan-is = cc }
-        by-told (ill g) q = absurd (let u = sym e ∙ (said ∙ faults-agree st active xmax cur used first s g q) in let z : _≡_ {A = ℕ} 0 1 = cc in omega arith)
+            let i = bound-tells used first s rs B room q in
+            let u : Bounded.Ok (i .bound) ≡ Bounded.Ok b = sym (i .told) ∙ (sym said ∙ e) in
+            record { rows = rs; told = q; bound = i; bound-is = cc; fast = fast-lists st active xmax cur used first s rs B room q }
+        by-told (ill g) q = absurd (let u = sym e ∙ (said ∙ faults-agree used first s g q) in let z : _≡_ {A = ℕ} 0 1 = cc in omega arith)
 
-    lists : listedVisible st active xmax cur out (chainRows used first s) ≡ fitted (records (scanRows st active xmax cur (judged .rows))) out
-    lists = ap (listedVisible st active xmax cur out) (judged .told)
+    lists : (out : List ℕ) → listedVisible st active xmax cur out (chainRows used first s) ≡ fitted (records (scanRows st active xmax cur (judged .rows))) out
+    lists out = ap (listedVisible st active xmax cur out) (judged .told)
 
-    pub list-falls : {w : Written Listing} → w ≡ fitted (slowBytes 4294967296 st active xmax cur used 0 first s) out → w ≡ listedVisible st active xmax cur out (chainRows used first s)
-    list-falls u = u ∙ (ap (λ (x : List ℕ). fitted x out) (slow-lists st active xmax cur used first s (judged .rows) B room (judged .told)) ∙ sym lists)
+    pub list-falls : (out : List ℕ) {w : Written Listing} → w ≡ fitted (slowBytes 4294967296 st active xmax cur used 0 first s) out → w ≡ listedVisible st active xmax cur out (chainRows used first s)
+    list-falls out u = u ∙ (ap (λ (x : List ℕ). fitted x out) (slow-lists st active xmax cur used first s (judged .rows) B room (judged .told)) ∙ sym (lists out))
 
-    module _ {n : ℕ} (straight : sc .falls ≡ false) (size : n ≡ fullSize sc) where
+    all-few : length (passBytes s (passAlong st active xmax cur used first s)) ≤ b .size
+    all-few = omega (arith, judged .fast .few, judged .bound .size, ap (λ (d : Bound). d .size) (judged .bound-is))
+
+    -- the sum is room enough
+    pub list-room : {n : ℕ} → b .size ≤ n → length (passBytes s (passAlong st active xmax cur used first s)) ≤ n
+    list-room h = omega (arith, all-few)
+
+    pub list-through : used ≤ 4294967295 → Through (passAlong st active xmax cur used first s) s
+    list-through h =
+        record { pass = judged .fast .end; judged = judged .fast .pass; few = omega (arith, all-few, along-few used first s (sym said ∙ e)) }
+
+    pub list-fits : (out : List ℕ) → used ≤ 4294967295 → length (passBytes s (passAlong st active xmax cur used first s)) ≤ length out → Fits (passAlong st active xmax cur used first s) s out
+    list-fits out h l = record { through = list-through h; room = l }
+
+    module _ (straight : b .falls ≡ false) where
       bytes-are : passBytes s (passAlong st active xmax cur used first s) ≡ records (scanRows st active xmax cur (judged .rows))
-      bytes-are = judged .fast .bytes (ap (λ (d : Scan). d .falls) (judged .scan-is) ∙ straight)
+      bytes-are = judged .fast .bytes (sym (judged .bound .falls) ∙ (ap (λ (d : Bound). d .falls) (judged .bound-is) ∙ straight))
 
-      length-is : n ≡ length (passBytes s (passAlong st active xmax cur used first s))
-      length-is = size ∙ (sym (ap fullSize (judged .scan-is)) ∙ judged .fast .size)
+      pub list-short : (out : List ℕ) {n : ℕ} → n ≡ length (passBytes s (passAlong st active xmax cur used first s)) → length out < n
+          → written Listing.Short out ≡ listedVisible st active xmax cur out (chainRows used first s)
+      list-short out u h = fitted-short (records (scanRows st active xmax cur (judged .rows))) out (u ∙ ap length bytes-are) h ∙ sym (lists out)
 
-      rows-long : n ≡ length (records (scanRows st active xmax cur (judged .rows)))
-      rows-long = length-is ∙ ap length bytes-are
-
-      pub list-short : length out < n → written Listing.Short out ≡ listedVisible st active xmax cur out (chainRows used first s)
-      list-short h = fitted-short (records (scanRows st active xmax cur (judged .rows))) out rows-long h ∙ sym lists
-
-      pub list-fits : n ≤ length out → length out ≤ 9223372036854775807 → Fits (passAlong st active xmax cur used first s) s out
-      list-fits h l = record { pass = judged .fast .end; judged = judged .fast .pass; room = omega (arith, length-is); few = omega (arith, length-is) }
-
-      pub list-done : {t : List ℕ} → n ≤ length out → t ≡ put 0 (passBytes s (passAlong st active xmax cur used first s)) out
-          → written (Listing.Done n) t ≡ listedVisible st active xmax cur out (chainRows used first s)
-      list-done h u =
-          fitted-done (records (scanRows st active xmax cur (judged .rows))) out rows-long h (u ∙ ap (λ (x : List ℕ). put 0 x out) bytes-are) ∙ sym lists
+      pub list-done : (out : List ℕ) {n : ℕ} {t : List ℕ} → length (passBytes s (passAlong st active xmax cur used first s)) ≤ length out
+          → written n t ≡ passed (passBytes s (passAlong st active xmax cur used first s)) out → written (Listing.Done n) t ≡ listedVisible st active xmax cur out (chainRows used first s)
+      list-done out {n} {t} h u =
+          let a : n ≡ length (passBytes s (passAlong st active xmax cur used first s)) = ap (λ (y : Written ℕ). y .answer) u in
+          let z : t ≡ put 0 (passBytes s (passAlong st active xmax cur used first s)) out = ap (λ (y : Written ℕ). y .output) u in
+          fitted-done (records (scanRows st active xmax cur (judged .rows))) out (a ∙ ap length bytes-are) (omega arith) (z ∙ ap (λ (x : List ℕ). put 0 x out) bytes-are) ∙ sym (lists out)
 
 -- ---- from the root
 

@@ -1,12 +1,13 @@
-pub mod Waiting
-pub mod Stepping
-pub mod Writing
-pub mod Passing
-pub mod Ending
 pub mod Beside
 pub mod Choosing
 pub mod Standing
+pub mod Bounding
+pub mod Falling
+pub mod Stepping
+pub mod Going
 pub mod Measuring
+pub mod Writing
+pub mod Passing
 pub mod Pushing
 pub mod Listing
 pub mod Ranging
@@ -14,3 +15,4 @@ pub mod Slowness
 pub mod Lessening
 pub mod Slowing
 pub mod Fitting
+pub mod Ending

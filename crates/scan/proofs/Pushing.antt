@@ -1,130 +1,201 @@
--- What one pass holds after some rows of the chain: the listed rows' bytes, and what waits, of the larger key. One more visible
--- cell keeps it. Assumes nothing.
+-- What the second pass holds after some rows of the chain: while no key falls, the listed rows' bytes and what waits, of the
+-- larger key; and never more bytes than all records have. One more cell keeps it. Assumes nothing.
 use mathlib.Core.Path.{_≡_, refl, sym, ap, _∙_}
 use mathlib.Core.Bool.{Bool, true, false}
 use mathlib.Core.List.{List, [], _∷_, _++_, append-assoc, append-nil}
-use Prim.Native.Nat.{ℕ, _+_, _*_, _≤_, _<_}
+use Prim.Native.Nat.{ℕ, _+_, _≤_, _<_}
 use native.Mathlib.Omega.{arith}
 use borrow.Author.Tests.{ltb-true, ltb-false, eqb-true, eqb-false, lt-ltb, le-ltb, eq-eqb, ne-eqb}
 use lib.Dec.{ltb, eqb}
 use lib.ListN.{length, length-append}
-use Rattle.store.specs.Le.{AreBytes}
 use Rattle.store.specs.Pick.{pick}
-use Rattle.page.specs.Page.{page}
-use Rattle.row.specs.Read.{cellAt}
-use Rattle.row.specs.declared.Cell.{Cell}
-use Rattle.row.specs.declared.read.CellRead.{CellRead}
-use Rattle.leaf.specs.Rows.{Row, rowOf}
-use Rattle.leaf.specs.declared.find.Best.{Best}
+use Rattle.leaf.specs.Rows.{Row}
 use Rattle.listing.specs.Records.{records}
 use Rattle.scan.specs.Visible.{entered}
-use Rattle.scan.specs.Fast.{spanOf, choose, stepFrom, waitBytes, pushedBy, Waits}
-use Rattle.scan.specs.declared.Scan.{Scan}
+use Rattle.scan.specs.Fast.{recordSize, waitingFor, stepFrom, waitBytes, pushedBy}
+use Rattle.scan.specs.ScanFacts.{falling}
+use Rattle.scan.specs.declared.pass.Chosen.{Chosen}
+use Rattle.scan.specs.declared.pass.Wait.{Wait}
+use Rattle.scan.specs.declared.pass.Scan.{Scan}
 use Rattle.scan.proofs.Choosing.{Below, below-more, below-snoc, entered-past, records-append}
-use Rattle.scan.proofs.Standing.{waitRows, length-wait, wait-records}
+use Rattle.scan.proofs.Falling.{lastOf, last-snoc, never-falls}
 
-abbrev Smaller : Best → List Row → Type 0
-Smaller Best.Nothing rs = rs ≡ []
-Smaller (Best.At q o) rs = Below (o .key) rs
+-- x is the version of that row
+pub record VersionIs (s : List ℕ) (x : Chosen) (r : Row) : Type 0 where
+  pub key-is : x .key ≡ r .key
+  pub creator-is : x .creator ≡ r .creator
+  pub bytes-are : records (r ∷ []) ≡ waitBytes (Wait.For x) s
+
+-- the listed rows are below the row that waits, whose key is not past the last one
+record Ahead (s : List ℕ) (last : ℕ) (o : Chosen) (listed chosen : List Row) : Type 0 where
+  row : Row
+  stands : VersionIs s o row
+  are : chosen ≡ listed ++ (row ∷ [])
+  smaller : Below (row .key) listed
+  late : row .key ≤ last
+
+abbrev Waiting : (s : List ℕ) → (last : ℕ) → Wait → (listed chosen : List Row) → Type 0
+Waiting s last Wait.Nothing listed chosen = (listed ≡ []) × (chosen ≡ [])
+Waiting s last (Wait.For o) listed chosen = Ahead s last o listed chosen
 
 -- the chosen rows: those listed, whose records are the bytes, then the one that waits
-pub record Lists (s : List ℕ) (chosen : List Row) (best : Best) (bytes : List ℕ) : Type 0 where
-  pub listed : List Row
-  pub are : chosen ≡ listed ++ waitRows best s
-  pub said : records listed ≡ bytes
-  smaller : Smaller best listed
+pub record Lists (s : List ℕ) (last : ℕ) (chosen : List Row) (wait : Wait) (bytes : List ℕ) : Type 0 where
+  listed : List Row
+  said : records listed ≡ bytes
+  waiting : Waiting s last wait listed chosen
 
-pub lists-none : (s : List ℕ) → Lists s [] Best.Nothing []
+pub lists-none : (s : List ℕ) → Lists s 0 [] Wait.Nothing []
 unfolding records
-lists-none s = record { listed = []; are = refl; said = refl; smaller = refl }
+lists-none s = record { listed = []; said = refl; waiting = (refl, refl) }
 
-module _ (s : List ℕ) (chosen : List Row) (bytes : List ℕ) (p : ℕ) (x : Cell) where
-  lists-first : Lists s chosen Best.Nothing bytes → Lists s (entered (rowOf (page p s) x) chosen) (Best.At p x) bytes
-  unfolding entered
-  lists-first l =
-      let none : chosen ≡ [] = l .are ∙ (append-nil (l .listed) ∙ l .smaller) in
-      record { listed = []; are = rw none; said = ap records (sym (l .smaller)) ∙ l .said; smaller = tt }
+-- all bytes, with what waits
+pub lists-all : (s : List ℕ) (last : ℕ) (chosen : List Row) (wait : Wait) (bytes : List ℕ) → Lists s last chosen wait bytes → bytes ++ waitBytes wait s ≡ records chosen
+lists-all s last chosen Wait.Nothing bytes l = append-nil bytes ∙ (sym (l .said) ∙ ap records (l .waiting .0 ∙ sym (l .waiting .1)))
+lists-all s last chosen (Wait.For o) bytes l =
+    let a = l .waiting in
+    rw (a .are, records-append (l .listed) (a .row ∷ []), a .stands .bytes-are, l .said)
 
-  module _ (q : ℕ) (o : Cell) (l : Lists s chosen (Best.At q o) bytes) where
-    past : (k : ℕ) → k ≡ x .key → Below k (l .listed) → entered (rowOf (page p s) x) chosen ≡ l .listed ++ entered (rowOf (page p s) x) (rowOf (page q s) o ∷ [])
-    past k e b = ap (entered (rowOf (page p s) x)) (l .are) ∙ entered-past (rowOf (page p s) x) (l .listed) (rowOf (page q s) o ∷ []) (rw e at b)
+module _ (s : List ℕ) (last : ℕ) (chosen : List Row) (bytes : List ℕ) where
+  -- a row that changes nothing
+  lists-later : (wait : Wait) (k : ℕ) → last ≤ k → Lists s last chosen wait bytes → Lists s k chosen wait bytes
+  lists-later Wait.Nothing k h l = record { listed = l .listed; said = l .said; waiting = l .waiting }
+  lists-later (Wait.For o) k h l =
+      let a = l .waiting in
+      record { listed = l .listed; said = l .said; waiting = record { row = a .row; stands = a .stands; are = a .are; smaller = a .smaller; late = omega (arith, a .late) } }
 
-    module _ (same : o .key ≡ x .key) where
-      lists-newer : o .version .creator < x .version .creator → Lists s (entered (rowOf (page p s) x) chosen) (Best.At p x) bytes
-      unfolding entered
-      lists-newer h =
-          record {
-            listed = l .listed;
-            are = past (o .key) same (l .smaller) ∙ rw (le-ltb (x .key) (o .key) (omega arith), eq-eqb (x .key) (o .key) (sym same), lt-ltb (o .version .creator) (x .version .creator) h);
-            said = l .said;
-            smaller = rw same at (l .smaller);
-          }
-
-      lists-older : x .version .creator ≤ o .version .creator → Lists s (entered (rowOf (page p s) x) chosen) (Best.At q o) bytes
-      unfolding entered
-      lists-older h =
-          record {
-            listed = l .listed;
-            are = past (o .key) same (l .smaller) ∙ rw (le-ltb (x .key) (o .key) (omega arith), eq-eqb (x .key) (o .key) (sym same), le-ltb (o .version .creator) (x .version .creator) h);
-            said = l .said;
-            smaller = l .smaller;
-          }
-
-    lists-larger : (w : List ℕ) → records (rowOf (page q s) o ∷ []) ≡ w → o .key < x .key → Lists s (entered (rowOf (page p s) x) chosen) (Best.At p x) (bytes ++ w)
+  module _ (x : Chosen) (r : Row) (v : VersionIs s x r) where
+    lists-first : Lists s last chosen Wait.Nothing bytes → Lists s (r .key) (entered r chosen) (Wait.For x) bytes
     unfolding entered
-    lists-larger w e h =
-        let n : x .key ≡ o .key → ⊥ = λ z. omega arith in
-        let b : Below (x .key) (l .listed) = below-more (o .key) (x .key) (l .listed) (omega arith) (l .smaller) in
+    lists-first l =
         record {
-          listed = l .listed ++ (rowOf (page q s) o ∷ []);
-          are =
-              past (x .key) refl b
-              ∙ rw (le-ltb (x .key) (o .key) (omega arith), ne-eqb (x .key) (o .key) n) (sym (append-assoc (l .listed) (rowOf (page q s) o ∷ []) (rowOf (page p s) x ∷ [])));
-          said = records-append (l .listed) (rowOf (page q s) o ∷ []) ∙ rw (l .said, e);
-          smaller = below-snoc (x .key) (l .listed) (rowOf (page q s) o) b h;
+          listed = [];
+          said = ap records (sym (l .waiting .0)) ∙ l .said;
+          waiting = record { row = r; stands = v; are = rw (l .waiting .1); smaller = tt; late = omega arith };
         }
 
--- what the pass holds
-pub record Kept (used : ℕ) (s : List ℕ) (chosen : List Row) (sc : Scan) (bytes : List ℕ) : Type 0 where
-  pub waits : Waits used (sc .best) s
-  pub size : sc .size ≡ length bytes
-  pub lists : sc .falls ≡ false → Lists s chosen (sc .best) bytes
+    module _ (o : Chosen) (h : last ≤ r .key) (l : Lists s last chosen (Wait.For o) bytes) where
+      abbrev old : Row
+      old = l .waiting .row
 
-module _ (used : ℕ) (s : List ℕ) (B : AreBytes s) (room : used * 4096 ≤ length s) (p : ℕ) (x : Cell) (h : p < used) (here : cellAt (page p s) (x .at) ≡ CellRead.Got x) where
-  pub step-kept : (best : Best) (size : ℕ) (falls : Bool) (chosen : List Row) (bytes : List ℕ) → Kept used s chosen (record { best = best; size = size; falls = falls }) bytes
-      → Kept used s (entered (rowOf (page p s) x) chosen) (stepFrom best p (record { best = best; size = size; falls = falls }) x) (bytes ++ pushedBy best x s)
-  step-kept Best.Nothing size falls chosen bytes k =
-      rw append-nil (record { waits = (h, here); size = k .size; lists = λ f. lists-first s chosen bytes p x (k .lists f) })
-  step-kept (Best.At q o) size falls chosen bytes k = by-order (ltb (x .key) (o .key)) (eqb (x .key) (o .key)) (ltb (o .version .creator) (x .version .creator)) refl refl refl
+      past : Below (r .key) (l .listed) → entered r chosen ≡ l .listed ++ entered r (old ∷ [])
+      past b = ap (entered r) (l .waiting .are) ∙ entered-past r (l .listed) (old ∷ []) b
+
+      low : Below (r .key) (l .listed)
+      low = below-more (old .key) (r .key) (l .listed) (omega (arith, l .waiting .late)) (l .waiting .smaller)
+
+      keys : (o .key ≡ x .key → ⊥) → r .key ≡ old .key → ⊥
+      keys z e = z (l .waiting .stands .key-is ∙ (sym e ∙ sym (v .key-is)))
+
+      module _ (same : o .key ≡ x .key) where
+        one : r .key ≡ old .key
+        one = sym (v .key-is) ∙ (sym same ∙ l .waiting .stands .key-is)
+
+        lists-newer : o .creator < x .creator → Lists s (r .key) (entered r chosen) (Wait.For x) bytes
+        unfolding entered
+        lists-newer n =
+            let less : old .creator < r .creator = omega (arith, l .waiting .stands .creator-is, v .creator-is) in
+            record {
+              listed = l .listed;
+              said = l .said;
+              waiting =
+                  record {
+                    row = r;
+                    stands = v;
+                    are = past low ∙ rw (le-ltb (r .key) (old .key) (omega (arith, one)), eq-eqb (r .key) (old .key) one, lt-ltb (old .creator) (r .creator) less);
+                    smaller = low;
+                    late = omega arith;
+                  };
+            }
+
+        lists-older : x .creator ≤ o .creator → Lists s (r .key) (entered r chosen) (Wait.For o) bytes
+        unfolding entered
+        lists-older n =
+            let less : r .creator ≤ old .creator = omega (arith, l .waiting .stands .creator-is, v .creator-is) in
+            record {
+              listed = l .listed;
+              said = l .said;
+              waiting =
+                  record {
+                    row = old;
+                    stands = l .waiting .stands;
+                    are = past low ∙ rw (le-ltb (r .key) (old .key) (omega (arith, one)), eq-eqb (r .key) (old .key) one, le-ltb (old .creator) (r .creator) less);
+                    smaller = l .waiting .smaller;
+                    late = omega (arith, one);
+                  };
+            }
+
+      lists-other : (o .key ≡ x .key → ⊥) → Lists s (r .key) (entered r chosen) (Wait.For x) (bytes ++ waitBytes (Wait.For o) s)
+      unfolding entered
+      lists-other z =
+          let n : r .key ≡ old .key → ⊥ = keys z in
+          let less : old .key < r .key = omega (arith, l .waiting .late) in
+          record {
+            listed = l .listed ++ (old ∷ []);
+            said = records-append (l .listed) (old ∷ []) ∙ rw (l .said, l .waiting .stands .bytes-are);
+            waiting =
+                record {
+                  row = r;
+                  stands = v;
+                  are =
+                      past low
+                      ∙ rw (le-ltb (r .key) (old .key) (omega arith), ne-eqb (r .key) (old .key) n) (sym (append-assoc (l .listed) (old ∷ []) (r ∷ [])));
+                  smaller = below-snoc (r .key) (l .listed) old low less;
+                  late = omega arith;
+                };
+          }
+
+-- what the pass holds after the rows rs, of which those were chosen
+pub record Kept (s : List ℕ) (rs chosen : List Row) (wait : Wait) (bytes : List ℕ) : Type 0 where
+  pub few : length bytes + length (waitBytes wait s) ≤ length (records rs)
+  pub lists : falling 0 rs ≡ false → Lists s (lastOf 0 rs) chosen wait bytes
+
+module _ (s : List ℕ) (rs chosen : List Row) (x : Chosen) (r : Row) (v : VersionIs s x r) where
+  -- all records have one more
+  longer : length (records (rs ++ (r ∷ []))) ≡ length (records rs) + length (waitBytes (Wait.For x) s)
+  longer = ap length (records-append rs (r ∷ [])) ∙ (length-append (records rs) (records (r ∷ [])) ∙ ap (λ (y : List ℕ). length (records rs) + length y) (v .bytes-are))
+
+  last-is : {wait : Wait} {now bytes : List ℕ} {those : List Row} → now ≡ bytes → Lists s (r .key) those wait bytes → Lists s (lastOf 0 (rs ++ (r ∷ []))) those wait now
+  last-is e l = rw (last-snoc 0 rs r, e) l
+
+  pub step-kept : (wait : Wait) (sc : Scan) (bytes : List ℕ) → sc .wait ≡ wait → Kept s rs chosen wait bytes
+      → Kept s (rs ++ (r ∷ [])) (entered r chosen) (stepFrom wait sc x .wait) (bytes ++ pushedBy wait x s)
+  step-kept Wait.Nothing sc bytes e k =
+      record {
+        few = omega (arith, k .few, longer, ap length (append-nil bytes));
+        lists = λ f. let n = never-falls rs r f in last-is (append-nil bytes) (lists-first s (lastOf 0 rs) chosen bytes x r v (k .lists (n .0)));
+      }
+  step-kept (Wait.For o) sc bytes e k = by-tests (eqb (o .key) (x .key)) (ltb (o .creator) (x .creator)) refl refl
     where
-      old : Scan
-      old = record { best = Best.At q o; size = size; falls = falls }
-
-      by-order : (a b d : Bool) → ltb (x .key) (o .key) ≡ a → eqb (x .key) (o .key) ≡ b → ltb (o .version .creator) (x .version .creator) ≡ d
-          → Kept used s (entered (rowOf (page p s) x) chosen)
-          (pick a (record { best = Best.At q o; size = size; falls = true })
-          (pick b (pick d (choose old p x) old)
-          (record { best = Best.At p x; size = size + (6 + spanOf o); falls = falls })))
-          (bytes ++ pushedBy (Best.At q o) x s)
-      by-order true b d e₁ e₂ e₃ =
-          let less : x .key < o .key = ltb-true (x .key) (o .key) e₁ in
-          rw (le-ltb (o .key) (x .key) (omega arith), append-nil)
-          (record { waits = k .waits; size = k .size; lists = λ f. absurd (let z : _≡_ {A = ℕ} 0 1 = cc in omega arith) })
-      by-order false true true e₁ e₂ e₃ =
-          let same : x .key ≡ o .key = eqb-true (x .key) (o .key) e₂ in
-          rw (le-ltb (o .key) (x .key) (omega arith), append-nil)
-          (record { waits = (h, here); size = k .size; lists = λ f. lists-newer s chosen bytes p x q o (k .lists f) (sym same) (ltb-true _ _ e₃) })
-      by-order false true false e₁ e₂ e₃ =
-          let same : x .key ≡ o .key = eqb-true (x .key) (o .key) e₂ in
-          rw (le-ltb (o .key) (x .key) (omega arith), append-nil)
-          (record { waits = k .waits; size = k .size; lists = λ f. lists-older s chosen bytes p x q o (k .lists f) (sym same) (ltb-false _ _ e₃) })
-      by-order false false d e₁ e₂ e₃ =
-          let low : o .key ≤ x .key = ltb-false (x .key) (o .key) e₁ in
-          let other : x .key ≡ o .key → ⊥ = eqb-false (x .key) (o .key) e₂ in
-          let less : o .key < x .key = omega arith in
-          rw (lt-ltb (o .key) (x .key) less)
+      by-tests : (a b : Bool) → eqb (o .key) (x .key) ≡ a → ltb (o .creator) (x .creator) ≡ b
+          → Kept s (rs ++ (r ∷ [])) (entered r chosen) (pick a (pick b (waitingFor x (sc .size)) sc) (waitingFor x (sc .size + recordSize o)) .wait)
+          (bytes ++ pick a [] (waitBytes (Wait.For o) s))
+      by-tests true true e₁ e₂ =
+          record {
+            few = omega (arith, k .few, longer, ap length (append-nil bytes));
+            lists =
+                λ f.
+                let n = never-falls rs r f in
+                last-is (append-nil bytes) (lists-newer s (lastOf 0 rs) chosen bytes x r v o (n .1) (k .lists (n .0)) (eqb-true (o .key) (x .key) e₁) (ltb-true (o .creator) (x .creator) e₂));
+          }
+      by-tests true false e₁ e₂ =
+          rw e
           (record {
-            waits = (h, here);
-            size = rw (length-append, length-wait used (Best.At q o) s room (k .waits)) (ap (λ (n : ℕ). n + (6 + spanOf o)) (k .size));
-            lists = λ f. lists-larger s chosen bytes p x q o (k .lists f) (waitBytes (Best.At q o) s) (wait-records used (Best.At q o) s B (k .waits)) less;
+            few = omega (arith, k .few, longer, ap length (append-nil bytes));
+            lists =
+                λ f.
+                let n = never-falls rs r f in
+                last-is (append-nil bytes) (lists-older s (lastOf 0 rs) chosen bytes x r v o (n .1) (k .lists (n .0)) (eqb-true (o .key) (x .key) e₁) (ltb-false (o .creator) (x .creator) e₂));
           })
+      by-tests false b e₁ e₂ =
+          record {
+            few = let m = length-append bytes (waitBytes (Wait.For o) s) in omega (arith, k .few, longer, m);
+            lists = λ f. let n = never-falls rs r f in last-is refl (lists-other s (lastOf 0 rs) chosen bytes x r v o (n .1) (k .lists (n .0)) (eqb-false (o .key) (x .key) e₁));
+          }
+
+  -- a row that is not visible
+  pub skip-kept : (wait : Wait) (bytes : List ℕ) → Kept s rs chosen wait bytes → Kept s (rs ++ (r ∷ [])) chosen wait (bytes ++ [])
+  skip-kept wait bytes k =
+      record {
+        few = omega (arith, k .few, longer, ap length (append-nil bytes));
+        lists = λ f. let n = never-falls rs r f in last-is (append-nil bytes) (lists-later s (lastOf 0 rs) chosen bytes wait (r .key) (n .1) (k .lists (n .0)));
+      }

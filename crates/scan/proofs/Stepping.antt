@@ -1,138 +1,143 @@
--- A visible cell waits, or pushes on what waits: one law for each way out, and how far the length grows. Assumes nothing.
+-- The small functions of the second pass, one law for each way out: a visible version waits, or pushes on what waits, whose
+-- record is made of the pool's own bytes. Assumes nothing.
 use mathlib.Core.Path.{_≡_, refl, sym, ap, _∙_}
 use mathlib.Core.Bool.{Bool, true, false}
 use mathlib.Core.List.{List}
-use Prim.Native.Nat.{ℕ, _+_, _≤_, _<_}
+use Prim.Native.Nat.{ℕ, _+_, _-_, _≤_, _<_}
 use native.Mathlib.Omega.{arith}
 use borrow.Author.Tests.{lt-ltb, le-ltb, eq-eqb, ne-eqb}
+use borrow.Rule.Slice.PartMut.{midOf}
 use lib.Dec.{ltb, eqb}
 use lib.ListN.{length}
+use Rattle.store.specs.Part.{part, put}
 use Rattle.store.specs.Pick.{pick}
-use Rattle.row.specs.declared.Cell.{Cell}
-use Rattle.row.specs.declared.Fault.{Fault}
-use Rattle.row.proofs.Exact.{cell-placed}
-use Rattle.mvcc.specs.Rules.{visible}
-use Rattle.mvcc.specs.declared.Current.{Current}
-use Rattle.leaf.specs.Cells.{stepOf}
-use Rattle.leaf.specs.declared.Step.{Step}
-use Rattle.leaf.proofs.Walking.{step-cell}
-use Rattle.leaf.specs.declared.find.Best.{Best}
-use Rattle.tree.specs.Chain.{go, broken}
-use Rattle.scan.specs.Fast.{spanOf, choose, stepFrom, scanned, seenScan, fullSize, Whole}
-use Rattle.scan.specs.declared.Scan.{Scan}
-use Rattle.scan.specs.declared.LeafScan.{LeafScan}
+use Rattle.store.proofs.PartLaws.{length-part}
+use Rattle.store.proofs.PutLaws.{put-nil, length-put}
+use Rattle.row.specs.Write.{recordBytes}
+use Rattle.listing.specs.Listed.{written}
+use Rattle.scan.specs.Fast.{recordSize, waitingFor, stepFrom, waitSize, fullSize, waitBytes, pushedBy, Whole, Waits}
+use Rattle.scan.specs.declared.pass.Chosen.{Chosen}
+use Rattle.scan.specs.declared.pass.Wait.{Wait}
+use Rattle.scan.specs.declared.pass.Scan.{Scan}
+use Rattle.scan.proofs.Standing.{length-record}
 
--- ---- the ways out
+-- ---- what waits
 
-module _ (p : ℕ) (sc : Scan) (x : Cell) {r : Scan} where
-  pub step-first : sc .best ≡ Best.Nothing → r ≡ record { best = Best.At p x; size = sc .size; falls = sc .falls } → r ≡ stepFrom (sc .best) p sc x
-  step-first e u = rw e u
+module _ (wait : Wait) {o : Chosen} (e : wait ≡ Wait.For o) where
+  pub whole-at : Whole wait → (o .from ≤ o .to) × (o .to - o .from ≤ 4096)
+  whole-at w = rw e at w
 
-  module _ {q : ℕ} {o : Cell} (e : sc .best ≡ Best.At q o) where
-    from : {t : Scan} → t ≡ stepFrom (Best.At q o) p sc x → r ≡ t → r ≡ stepFrom (sc .best) p sc x
-    from t u = u ∙ (t ∙ sym (ap (λ (b : Best). stepFrom b p sc x) e))
+  pub size-few : {n : ℕ} → Whole wait → n ≡ recordSize o → n ≤ 4102
+  unfolding recordSize
+  size-few w u = let h = whole-at w in rw u (omega (arith, h .1))
 
-    pub step-falls : x .key < o .key → r ≡ record { best = Best.At q o; size = sc .size; falls = true } → r ≡ stepFrom (sc .best) p sc x
-    step-falls h = from (rw (lt-ltb (x .key) (o .key) h, e))
-
-    pub step-larger : {n : ℕ} → o .key < x .key → n ≡ spanOf o → r ≡ record { best = Best.At p x; size = sc .size + (6 + n); falls = sc .falls } → r ≡ stepFrom (sc .best) p sc x
-    step-larger l w =
-        let z : x .key ≡ o .key → ⊥ = λ t. omega arith in
-        from (rw (w, le-ltb (x .key) (o .key) (omega arith), ne-eqb (x .key) (o .key) z))
-
-    module _ (h : o .key ≤ x .key) (l : x .key ≤ o .key) where
-      pub step-newer : o .version .creator < x .version .creator → r ≡ record { best = Best.At p x; size = sc .size; falls = sc .falls } → r ≡ stepFrom (sc .best) p sc x
-      step-newer n = from (rw (le-ltb (x .key) (o .key) h, eq-eqb (x .key) (o .key) (omega arith), lt-ltb (o .version .creator) (x .version .creator) n))
-
-      pub step-older : x .version .creator ≤ o .version .creator → r ≡ sc → r ≡ stepFrom (sc .best) p sc x
-      step-older n = from (rw (le-ltb (x .key) (o .key) h, eq-eqb (x .key) (o .key) (omega arith), le-ltb (o .version .creator) (x .version .creator) n))
-
-module _ (st : ℕ → ℕ) (active : List ℕ) (xmax : ℕ) (cur : Current) (p : ℕ) (sc : Scan) (x : Cell) {b : Bool}
-    (u : b ≡ visible st active xmax cur (x .version .creator) (x .version .stamp)) where
-  pub scanned-seen : {r : Scan} → b ≡ true → r ≡ stepFrom (sc .best) p sc x → r ≡ scanned st active xmax cur p sc x
-  unfolding scanned
-  scanned-seen t q = q ∙ rw (sym u ∙ t)
-
-  pub scanned-unseen : b ≡ false → sc ≡ scanned st active xmax cur p sc x
-  unfolding scanned
-  scanned-unseen t = rw (sym u ∙ t)
+pub waits-whole : (wait : Wait) (s : List ℕ) → Waits wait s → Whole wait
+waits-whole Wait.Nothing s w = tt
+waits-whole (Wait.For o) s w = (w .0, w .1)
 
 module _ (sc : Scan) where
-  pub full-nothing : sc .best ≡ Best.Nothing → sc .size ≡ fullSize sc
+  pub full-nothing : sc .wait ≡ Wait.Nothing → sc .size ≡ fullSize sc
   full-nothing e = rw e (omega arith)
 
-  pub full-waits : {q n : ℕ} {o : Cell} → sc .best ≡ Best.At q o → n ≡ spanOf o → sc .size + (6 + n) ≡ fullSize sc
+  pub full-waits : {n : ℕ} {o : Chosen} → sc .wait ≡ Wait.For o → n ≡ recordSize o → sc .size + n ≡ fullSize sc
   full-waits e w = rw (e, w)
 
--- ---- how far the length grows
+-- ---- a visible version
 
-pub whole-at : (best : Best) {q : ℕ} {o : Cell} → best ≡ Best.At q o → Whole best → (o .at ≤ o .next) × (o .next ≤ 4096)
-whole-at best e w = rw e at w
+module _ (sc : Scan) (x : Chosen) {r : Scan} where
+  pub step-first : sc .wait ≡ Wait.Nothing → r ≡ waitingFor x (sc .size) → r ≡ stepFrom (sc .wait) sc x
+  step-first e u = rw e u
 
-pub span-few : (best : Best) {q n : ℕ} {o : Cell} → best ≡ Best.At q o → Whole best → n ≡ spanOf o → n ≤ 4096
-unfolding spanOf
-span-few best {q} {n} {o} e w u = let h = whole-at best e w in rw u (omega (arith, h .1))
+  module _ {o : Chosen} (e : sc .wait ≡ Wait.For o) where
+    from : {t : Scan} → t ≡ stepFrom (Wait.For o) sc x → r ≡ t → r ≡ stepFrom (sc .wait) sc x
+    from t u = u ∙ (t ∙ sym (ap (λ (w : Wait). stepFrom w sc x) e))
 
--- what waits has its bytes in a page, and the length grew by at most one record
-pub record Grown (old new : Scan) : Type 0 where
-  pub whole : Whole (new .best)
-  pub more : new .size ≤ old .size + 4102
+    pub step-other : {n : ℕ} → (o .key ≡ x .key → ⊥) → n ≡ recordSize o → r ≡ waitingFor x (sc .size + n) → r ≡ stepFrom (sc .wait) sc x
+    step-other z w = from (rw (w, ne-eqb (o .key) (x .key) z))
 
--- what waits afterwards: what waited, or the cell
-pub step-best : (p : ℕ) (sc : Scan) (x : Cell) (P : Best → Type 0) (best : Best) → P (sc .best) → P (Best.At p x) → P (stepFrom best p sc x .best)
-step-best p sc x P Best.Nothing old new = new
-step-best p sc x P (Best.At q o) old new = by-tests (ltb (x .key) (o .key)) (eqb (x .key) (o .key)) (ltb (o .version .creator) (x .version .creator))
+    module _ (same : o .key ≡ x .key) where
+      pub step-newer : o .creator < x .creator → r ≡ waitingFor x (sc .size) → r ≡ stepFrom (sc .wait) sc x
+      step-newer n = from (rw (eq-eqb (o .key) (x .key) same, lt-ltb (o .creator) (x .creator) n))
+
+      pub step-older : x .creator ≤ o .creator → r ≡ sc → r ≡ stepFrom (sc .wait) sc x
+      step-older n = from (rw (eq-eqb (o .key) (x .key) same, le-ltb (o .creator) (x .creator) n))
+
+-- what waits afterwards: what waited, or the version
+pub step-wait : (sc : Scan) (x : Chosen) (P : Wait → Type 0) (wait : Wait) → P (sc .wait) → P (Wait.For x) → P (stepFrom wait sc x .wait)
+step-wait sc x P Wait.Nothing old new = new
+step-wait sc x P (Wait.For o) old new = by-tests (eqb (o .key) (x .key)) (ltb (o .creator) (x .creator))
   where
-    by-tests : (a b d : Bool)
-        → P
-        (pick a (record { best = sc .best; size = sc .size; falls = true })
-        (pick b (pick d (choose sc p x) sc)
-        (record { best = Best.At p x; size = sc .size + (6 + spanOf o); falls = sc .falls }))
-        .best)
-    by-tests true b d = old
-    by-tests false true true = new
-    by-tests false true false = old
-    by-tests false false d = new
+    by-tests : (a b : Bool) → P (pick a (pick b (waitingFor x (sc .size)) sc) (waitingFor x (sc .size + recordSize o)) .wait)
+    by-tests true true = new
+    by-tests true false = old
+    by-tests false b = new
 
-pub step-more : (p : ℕ) (sc : Scan) (x : Cell) (best : Best) → Whole best → stepFrom best p sc x .size ≤ sc .size + 4102
-step-more p sc x Best.Nothing w = omega arith
-step-more p sc x (Best.At q o) w = by-tests (ltb (x .key) (o .key)) (eqb (x .key) (o .key)) (ltb (o .version .creator) (x .version .creator))
+-- the length grows by one record at most
+pub step-more : (sc : Scan) (x : Chosen) (wait : Wait) → Whole wait → stepFrom wait sc x .size ≤ sc .size + 4102
+step-more sc x Wait.Nothing w = omega arith
+step-more sc x (Wait.For o) w = by-tests (eqb (o .key) (x .key)) (ltb (o .creator) (x .creator))
   where
-    by-tests : (a b d : Bool)
-        → pick a (record { best = sc .best; size = sc .size; falls = true })
-        (pick b (pick d (choose sc p x) sc)
-        (record { best = Best.At p x; size = sc .size + (6 + spanOf o); falls = sc .falls }))
-        .size
-        ≤ sc .size + 4102
-    by-tests true b d = omega arith
-    by-tests false true true = omega arith
-    by-tests false true false = omega arith
-    by-tests false false d = let n = span-few (Best.At q o) refl w refl in omega (arith, n)
+    by-tests : (a b : Bool) → pick a (pick b (waitingFor x (sc .size)) sc) (waitingFor x (sc .size + recordSize o)) .size ≤ sc .size + 4102
+    by-tests true true = omega arith
+    by-tests true false = omega arith
+    by-tests false b = let n = size-few (Wait.For o) refl w refl in omega (arith, n)
 
-module _ (p : ℕ) (sc : Scan) (x : Cell) (low : x .at ≤ x .next) (high : x .next ≤ 4096) where
-  pub scanned-grown : (st : ℕ → ℕ) (active : List ℕ) (xmax : ℕ) (cur : Current) {r : Scan} → Whole (sc .best) → r ≡ scanned st active xmax cur p sc x → Grown sc r
-  unfolding scanned
-  scanned-grown st active xmax cur {r} w e = rw e (by-seen (visible st active xmax cur (x .version .creator) (x .version .stamp)))
-    where
-      by-seen : (b : Bool) → Grown sc (pick b (stepFrom (sc .best) p sc x) sc)
-      by-seen true = record { whole = step-best p sc x Whole (sc .best) w (low, high); more = step-more p sc x (sc .best) w }
-      by-seen false = record { whole = w; more = omega arith }
+-- ---- the record of what waits
 
--- the same at the step of a loop over the leaf
-pub cell-grown : (pg : List ℕ) (p k c at : ℕ) (st : ℕ → ℕ) (active : List ℕ) (xmax : ℕ) (cur : Current) (q : ℕ) (sc : Scan) (x : Cell) {t : Step} {r : Scan} → length pg ≡ 4096
-    → t ≡ stepOf p k c at pg → t ≡ Step.Got x → Whole (sc .best) → r ≡ scanned st active xmax cur q sc x → Grown sc r × (x .next ≤ 4096) × (at + 1 ≤ x .next)
-cell-grown pg p k c at st active xmax cur q sc x l e g w u =
-    let d = cell-placed pg at x (step-cell pg p k c at e g .0) in
-    let high : x .next ≤ 4096 = omega (arith, d .inside) in
-    let past : at + 1 ≤ x .next = omega (arith, d .past-head, d .whole) in
-    let low : x .at ≤ x .next = omega (arith, d .here) in
-    (scanned-grown q sc x low high st active xmax cur w u, high, past)
+module _ (o : Chosen) (s : List ℕ) (w : Waits (Wait.For o) s) where
+  length-span : length (part (o .from) (o .to - o .from) s) ≡ o .to - o .from
+  length-span = length-part (o .from) (o .to - o .from) s (omega (arith, w .0, w .2))
 
--- ---- what a leaf's answer says of the walk
+  -- its bytes, as the borrow checker says them
+  lent : midOf (o .from) (o .to - o .from) s ≡ part (o .from) (o .to - o .from) s
+  unfolding part
+  lent = refl
 
-module _ {r x : LeafScan} (said : r ≡ x) where
-  pub scan-broken : {f : Fault} → r ≡ LeafScan.Bad f → seenScan x ≡ broken f
-  scan-broken e = ap seenScan (sym said ∙ e)
+pub length-wait : (wait : Wait) (s : List ℕ) → Waits wait s → length (waitBytes wait s) ≡ waitSize wait
+unfolding recordSize
+length-wait Wait.Nothing s w = refl
+length-wait (Wait.For o) s w = length-record 1 (part (o .from) (o .to - o .from) s) ∙ ap (λ (n : ℕ). 6 + n) (length-span o s w)
 
-  pub scan-go : {sc : Scan} → r ≡ LeafScan.Ok sc → seenScan x ≡ go sc
-  scan-go e = ap seenScan (sym said ∙ e)
+-- the two ways out of `write_wait`, and what it asks
+module _ (a : ℕ) (wait : Wait) (s : List ℕ) where
+  pub wait-none : (out : List ℕ) → wait ≡ Wait.Nothing → out ≡ put a (waitBytes wait s) out
+  wait-none out e = rw e (sym (put-nil a out))
+
+  module _ {o : Chosen} (e : wait ≡ Wait.For o) (w : Waits wait s) where
+    pub wait-at : Waits (Wait.For o) s
+    wait-at = rw e at w
+
+    pub wait-written : (out : List ℕ) {r : List ℕ} → r ≡ put a (recordBytes 1 (midOf (o .from) (o .to - o .from) s)) out → r ≡ put a (waitBytes wait s) out
+    wait-written out u = u ∙ rw (e, lent o s wait-at)
+
+    pub wait-fits : {n : ℕ} → a + length (waitBytes wait s) ≤ n
+        → (length (midOf (o .from) (o .to - o .from) s) < 65536) × (a + (6 + length (midOf (o .from) (o .to - o .from) s)) ≤ n)
+    wait-fits h =
+        let v = wait-at in
+        let l : length (midOf (o .from) (o .to - o .from) s) ≡ o .to - o .from = ap length (lent o s v) ∙ length-span o s v in
+        let m : length (waitBytes wait s) ≡ 6 + length (part (o .from) (o .to - o .from) s) = ap (λ (d : Wait). length (waitBytes d s)) e ∙ length-record 1 (part (o .from) (o .to - o .from) s) in
+        let n = length-span o s v in
+        (omega (arith, v .1), omega arith)
+
+-- ---- a visible version writes what it pushes on
+
+module _ (a : ℕ) (wait : Wait) (x : Chosen) (s out : List ℕ) {r : List ℕ} where
+  pub push-none : wait ≡ Wait.Nothing → r ≡ out → r ≡ put a (pushedBy wait x s) out
+  push-none e u = u ∙ rw e (sym (put-nil a out))
+
+  module _ {o : Chosen} (e : wait ≡ Wait.For o) where
+    pub push-writes : {t : List ℕ} → (o .key ≡ x .key → ⊥) → r ≡ t → t ≡ put a (waitBytes (Wait.For o) s) out → r ≡ put a (pushedBy wait x s) out
+    push-writes h u w = u ∙ (w ∙ rw (e, ne-eqb (o .key) (x .key) h))
+
+    pub push-keeps : o .key ≡ x .key → r ≡ out → r ≡ put a (pushedBy wait x s) out
+    push-keeps h u = u ∙ rw (e, eq-eqb (o .key) (x .key) h) (sym (put-nil a out))
+
+  pub push-length : a + length (pushedBy wait x s) ≤ length out → r ≡ put a (pushedBy wait x s) out → length r ≡ length out
+  push-length h e = ap length e ∙ length-put a (pushedBy wait x s) out h
+
+pub push-asks : (a : ℕ) (wait : Wait) (x : Chosen) (s : List ℕ) {n : ℕ} {o : Chosen} → wait ≡ Wait.For o → (o .key ≡ x .key → ⊥) → Waits wait s → a + length (pushedBy wait x s) ≤ n
+    → Waits (Wait.For o) s × (a + length (waitBytes (Wait.For o) s) ≤ n)
+push-asks a wait x s {n} {o} e h w l = (rw e at w, rw (e, ne-eqb (o .key) (x .key) h) at l)
+
+pub both : {A : Type 0} {r a : A} {t b : List ℕ} → r ≡ a → t ≡ b → written r t ≡ written a b
+both e u = rw (e, u)

@@ -1,186 +1,161 @@
--- The second pass over a judged leaf: the records that are left, put from the length so far on into the output as it is
--- now, give what all of them give. Assumes nothing.
+-- The second pass over a judged leaf, which writes: the records that are left, put from the length so far on into the output
+-- as it is now, give what all of them give. Assumes nothing.
 use mathlib.Core.Path.{_≡_, refl, sym, ap, _∙_}
 use mathlib.Core.Bool.{Bool, true, false}
-use mathlib.Core.List.{List, [], _∷_, _++_}
+use mathlib.Core.List.{List, [], _++_}
 use Prim.Native.Nat.{ℕ, zero, suc, _+_, _*_, _-_, _≤_, _<_}
 use native.Mathlib.Omega.{arith}
-use borrow.Author.Tests.{ltb-true, ltb-false, eqb-true, eqb-false, lt-ltb, le-ltb}
 use lib.Dec.{ltb, eqb}
 use lib.ListN.{length, length-append}
+use Rattle.store.specs.Le.{leAt}
 use Rattle.store.specs.Part.{put}
 use Rattle.store.specs.Pick.{pick}
 use Rattle.store.proofs.PutLaws.{put-nil, length-put, put-after-at}
 use Rattle.page.specs.Page.{page}
 use Rattle.page.specs.Header.{cellCount}
-use Rattle.row.specs.Read.{cellAt}
+use Rattle.page.specs.Key.{rankAt}
+use Rattle.page.proofs.PageLaws.{page-short}
+use Rattle.row.specs.Read.{stampIn, cellAt}
 use Rattle.row.specs.declared.Cell.{Cell}
 use Rattle.row.specs.declared.read.CellRead.{CellRead}
 use Rattle.row.proofs.Exact.{cell-placed}
 use Rattle.mvcc.specs.Rules.{visible}
 use Rattle.mvcc.specs.declared.Current.{Current}
 use Rattle.leaf.specs.Cells.{cellsOf, cells, foldCells}
-use Rattle.leaf.specs.declared.find.Best.{Best}
 use Rattle.listing.specs.Listed.{Written, written}
-use Rattle.scan.specs.Fast.{spanOf, choose, stepFrom, scanned, waitBytes, pushedBy, pushed, pushedAll, passLeaf, Waits}
-use Rattle.scan.specs.declared.Scan.{Scan}
-use Rattle.scan.proofs.Standing.{length-wait}
-use Rattle.scan.proofs.Stepping.{step-best}
+use Rattle.scan.specs.Fast.{chosenOf, recordSize, waitingFor, stepFrom, scanned, scanLeaf, waitBytes, pushedBy, pushed, pushedAll, passLeaf, Sound, Waits}
+use Rattle.scan.specs.declared.pass.Chosen.{Chosen}
+use Rattle.scan.specs.declared.pass.Wait.{Wait}
+use Rattle.scan.specs.declared.pass.Scan.{Scan}
+use Rattle.scan.proofs.Stepping.{length-wait, both}
+use Rattle.scan.proofs.Going.{Going, going-start, Turn, turn-visible, turn-chosen}
+use Rattle.scan.proofs.Measuring.{scanned-wait}
 
--- ---- a visible cell writes what it pushes on
-
-module _ (a : ℕ) (best : Best) (x : Cell) (s out : List ℕ) {r : List ℕ} where
-  pub push-none : best ≡ Best.Nothing → r ≡ out → r ≡ put a (pushedBy best x s) out
-  push-none e u = u ∙ rw e (sym (put-nil a out))
-
-  module _ {q : ℕ} {o : Cell} (e : best ≡ Best.At q o) where
-    pub push-writes : {t : List ℕ} → o .key < x .key → r ≡ t → t ≡ put a (waitBytes (Best.At q o) s) out → r ≡ put a (pushedBy best x s) out
-    push-writes h u w = u ∙ (w ∙ rw (e, lt-ltb (o .key) (x .key) h))
-
-    pub push-keeps : x .key ≤ o .key → r ≡ out → r ≡ put a (pushedBy best x s) out
-    push-keeps h u = u ∙ rw (e, le-ltb (o .key) (x .key) h) (sym (put-nil a out))
-
-  pub push-length : a + length (pushedBy best x s) ≤ length out → r ≡ put a (pushedBy best x s) out → length r ≡ length out
-  push-length h e = ap length e ∙ length-put a (pushedBy best x s) out h
-
-pub push-asks : (used a : ℕ) (best : Best) (x : Cell) (s : List ℕ) {n q : ℕ} {o : Cell} → best ≡ Best.At q o → o .key < x .key → Waits used best s → a + length (pushedBy best x s) ≤ n
-    → Waits used (Best.At q o) s × (a + length (waitBytes (Best.At q o) s) ≤ n)
-push-asks used a best x s e h w l = (rw e at w, rw (e, lt-ltb _ _ h) at l)
-
-pub both : {A : Type 0} {r a : A} {t b : List ℕ} → r ≡ a → t ≡ b → written r t ≡ written a b
-both e u = rw (e, u)
+pub cells-none : (at : ℕ) (pg : List ℕ) (n : ℕ) → n ≤ 0 → cellsOf n at pg ≡ []
+unfolding cellsOf
+cells-none at pg zero h = refl
+cells-none at pg (suc n) h = absurd (omega arith)
 
 -- ---- what a cell does to what waits, and to the length
 
-module _ (used p : ℕ) (s : List ℕ) (sc : Scan) (x : Cell) where
-  step-size : (best : Best) → used * 4096 ≤ length s → Waits used best s → stepFrom best p sc x .size ≡ sc .size + length (pushedBy best x s)
-  step-size Best.Nothing room w = omega arith
-  step-size (Best.At q o) room w = by-order (ltb (x .key) (o .key)) (eqb (x .key) (o .key)) (ltb (o .version .creator) (x .version .creator)) refl refl
+-- a cell of a page in use
+pub cell-waits : (used p at : ℕ) (s : List ℕ) {x : Cell} → used * 4096 ≤ length s → p < used → cellAt (page p s) at ≡ CellRead.Got x → Waits (Wait.For (chosenOf p x)) s
+cell-waits used p at s {x} room h e =
+    let a = cell-placed (page p s) at x e in
+    let l = page-short p s in
+    let low : x .at + 19 ≤ x .next = omega (arith, a .here, a .past-head, a .whole) in
+    let high : x .next ≤ 4096 = omega (arith, a .inside) in
+    (omega arith, omega arith, omega arith)
+
+module _ (p : ℕ) (s : List ℕ) (sc : Scan) where
+  step-size : (x : Chosen) (wait : Wait) → Waits wait s → stepFrom wait sc x .size ≡ sc .size + length (pushedBy wait x s)
+  step-size x Wait.Nothing w = omega arith
+  step-size x (Wait.For o) w = by-tests (eqb (o .key) (x .key)) (ltb (o .creator) (x .creator))
     where
-      by-order : (a b d : Bool) → ltb (x .key) (o .key) ≡ a → eqb (x .key) (o .key) ≡ b
-          → pick a (record { best = sc .best; size = sc .size; falls = true })
-          (pick b (pick d (choose sc p x) sc)
-          (record { best = Best.At p x; size = sc .size + (6 + spanOf o); falls = sc .falls }))
-          .size
-          ≡ sc .size + length (pushedBy (Best.At q o) x s)
-      by-order true b d e₁ e₂ = let l = ltb-true (x .key) (o .key) e₁ in rw (le-ltb (o .key) (x .key) (omega arith)) (omega arith)
-      by-order false true true e₁ e₂ = let l = eqb-true (x .key) (o .key) e₂ in rw (le-ltb (o .key) (x .key) (omega arith)) (omega arith)
-      by-order false true false e₁ e₂ = let l = eqb-true (x .key) (o .key) e₂ in rw (le-ltb (o .key) (x .key) (omega arith)) (omega arith)
-      by-order false false d e₁ e₂ =
-          let l = ltb-false (x .key) (o .key) e₁ in
-          let other : x .key ≡ o .key → ⊥ = eqb-false (x .key) (o .key) e₂ in
-          let less : o .key < x .key = omega arith in
-          rw (lt-ltb (o .key) (x .key) less, length-wait used (Best.At q o) s room w)
+      by-tests : (a b : Bool)
+          → pick a (pick b (waitingFor x (sc .size)) sc) (waitingFor x (sc .size + recordSize o)) .size ≡ sc .size + length (pick a [] (waitBytes (Wait.For o) s))
+      by-tests true true = omega arith
+      by-tests true false = omega arith
+      by-tests false b = rw (length-wait (Wait.For o) s w)
 
-  module _ (st : ℕ → ℕ) (active : List ℕ) (xmax : ℕ) (cur : Current) (w : Waits used (sc .best) s) where
-    pub scanned-waits : Waits used (Best.At p x) s → Waits used (scanned st active xmax cur p sc x .best) s
-    unfolding scanned
-    scanned-waits v = by-seen (visible st active xmax cur (x .version .creator) (x .version .stamp))
-      where
-        by-seen : (b : Bool) → Waits used (pick b (stepFrom (sc .best) p sc x) sc .best) s
-        by-seen true = step-best p sc x (λ d. Waits used d s) (sc .best) w v
-        by-seen false = w
-
-    pub scanned-size : used * 4096 ≤ length s → scanned st active xmax cur p sc x .size ≡ sc .size + length (pushed st active xmax cur sc x s)
-    unfolding scanned pushed
-    scanned-size room = by-seen (visible st active xmax cur (x .version .creator) (x .version .stamp))
-      where
-        by-seen : (b : Bool) → pick b (stepFrom (sc .best) p sc x) sc .size ≡ sc .size + length (pick b (pushedBy (sc .best) x s) [])
-        by-seen true = step-size (sc .best) room w
-        by-seen false = omega arith
-
-pub waits-read : (used p at : ℕ) (s : List ℕ) {x : Cell} → p < used → cellAt (page p s) at ≡ CellRead.Got x → Waits used (Best.At p x) s
-waits-read used p at s {x} h e = (h, ap (cellAt (page p s)) (cell-placed (page p s) at x e .here) ∙ e)
-
--- ---- the cells that are left
-
-module _ (at : ℕ) (pg : List ℕ) where
-  pub cells-none : (n : ℕ) → n ≤ 0 → cellsOf n at pg ≡ []
-  unfolding cellsOf
-  cells-none zero h = refl
-  cells-none (suc n) h = absurd (omega arith)
-
-  module _ {r : CellRead} (e : r ≡ cellAt pg at) where
-    pub cells-bad : (n : ℕ) {kind : ℕ} → r ≡ CellRead.Bad kind → cellsOf n at pg ≡ []
-    unfolding cellsOf
-    cells-bad zero u = refl
-    cells-bad (suc n) u = rw (sym e ∙ u)
-
-    pub cells-on : (n : ℕ) {x : Cell} → 0 < n → r ≡ CellRead.Got x → cellsOf n at pg ≡ x ∷ cellsOf (n - 1) (x .next) pg
-    unfolding cellsOf
-    cells-on zero h u = absurd (omega arith)
-    cells-on (suc n) h u = let m : suc n - 1 ≡ n = omega arith in rw (sym e ∙ u, m)
+  pub scanned-size : (st : ℕ → ℕ) (active : List ℕ) (xmax : ℕ) (cur : Current) (x : Cell) → Waits (sc .wait) s
+      → scanned st active xmax cur p sc x .size ≡ sc .size + length (pushed st active xmax cur p sc x s)
+  unfolding scanned pushed
+  scanned-size st active xmax cur x w = by-seen (visible st active xmax cur (x .version .creator) (x .version .stamp))
+    where
+      by-seen : (b : Bool) → pick b (stepFrom (sc .wait) sc (chosenOf p x)) sc .size ≡ sc .size + length (pick b (pushedBy (sc .wait) (chosenOf p x) s) [])
+      by-seen true = step-size (chosenOf p x) (sc .wait) w
+      by-seen false = omega arith
 
 -- ---- the loop over the leaf
 
--- what the turn did
-module _ (st : ℕ → ℕ) (active : List ℕ) (xmax : ℕ) (cur : Current) (p : ℕ) (s : List ℕ) (sc : Scan) (x : Cell) (out : List ℕ) {b : Bool} {d : Scan} {t : List ℕ} (u : b ≡ visible st active xmax cur (x .version .creator) (x .version .stamp)) where
-  pub turn-seen : {f : Scan} {y : List ℕ} → b ≡ true → d ≡ f → t ≡ y → written f y ≡ written (stepFrom (sc .best) p sc x) (put (sc .size) (pushedBy (sc .best) x s) out)
-      → written d t ≡ written (scanned st active xmax cur p sc x) (put (sc .size) (pushed st active xmax cur sc x s) out)
-  unfolding scanned pushed
-  turn-seen h e₁ e₂ q = both e₁ e₂ ∙ (q ∙ rw (sym u ∙ h))
+module _ (st : ℕ → ℕ) (active : List ℕ) (xmax : ℕ) (cur : Current) (p : ℕ) (s : List ℕ) where
+  -- what the turn did
+  module _ (sc : Scan) (out : List ℕ) {n at : ℕ} {pg : List ℕ} (t : Turn p n at pg) {b : Bool} (u : b ≡ visible st active xmax cur (leAt 8 pg (at + 8 + 1)) (stampIn pg (at + 8 + 9))) where
+    pub turn-pushed : {end : ℕ} {r : Chosen} {d f : Scan} {y z : List ℕ} → b ≡ true → end ≡ at + 8 + leAt 4 pg (at + 4)
+        → r ≡ record { from = p * 4096 + at; to = p * 4096 + end; key = rankAt pg at; creator = leAt 8 pg (at + 8 + 1) }
+        → written f z ≡ written (stepFrom (sc .wait) sc r) (put (sc .size) (pushedBy (sc .wait) r s) out) → y ≡ z → d ≡ f
+        → written d y ≡ written (scanned st active xmax cur p sc (t .cell)) (put (sc .size) (pushed st active xmax cur p sc (t .cell) s) out)
+    unfolding scanned pushed
+    turn-pushed h e q w v₁ v₂ =
+        both v₂ v₁
+        ∙ (w
+        ∙ (ap (λ (x : Chosen). written (stepFrom (sc .wait) sc x) (put (sc .size) (pushedBy (sc .wait) x s) out)) (turn-chosen t e q)
+        ∙ rw (sym (turn-visible t st active xmax cur u) ∙ h)))
 
-  pub turn-unseen : b ≡ false → d ≡ sc → t ≡ out → written d t ≡ written (scanned st active xmax cur p sc x) (put (sc .size) (pushed st active xmax cur sc x s) out)
-  unfolding scanned pushed
-  turn-unseen h e₁ e₂ = both e₁ (e₂ ∙ sym (put-nil (sc .size) out)) ∙ rw (sym u ∙ h)
+    pub turn-passed : {d : Scan} {y : List ℕ} → b ≡ false → y ≡ out → d ≡ sc
+        → written d y ≡ written (scanned st active xmax cur p sc (t .cell)) (put (sc .size) (pushed st active xmax cur p sc (t .cell) s) out)
+    unfolding scanned pushed
+    turn-passed h v₁ v₂ = both v₂ (v₁ ∙ sym (put-nil (sc .size) out)) ∙ rw (sym (turn-visible t st active xmax cur u) ∙ h)
 
-module _ (st : ℕ → ℕ) (active : List ℕ) (xmax : ℕ) (cur : Current) (used p : ℕ) (s : List ℕ) where
-  -- with the cells xs left, into an output of length n
-  pub record Writing (n : ℕ) (goal : Written Scan) (sc : Scan) (xs : List Cell) (out : List ℕ) : Type 0 where
-    pub waits : Waits used (sc .best) s
-    pub long : length out ≡ n
-    pub room : sc .size + length (pushedAll st active xmax cur p sc xs s) ≤ n
-    pub few : sc .size + length (pushedAll st active xmax cur p sc xs s) ≤ 9223372036854775807
-    pub same : written (foldCells (scanned st active xmax cur p) sc xs) (put (sc .size) (pushedAll st active xmax cur p sc xs s) out) ≡ goal
+  -- with n cells left from `at` on, into an output of length l
+  pub record Writing (l : ℕ) (goal : Written Scan) (pg : List ℕ) (n at : ℕ) (sc : Scan) (out : List ℕ) : Type 0 where
+    pub going : Going p n at pg
+    pub within : at ≤ 4096
+    pub waits : Waits (sc .wait) s
+    pub long : length out ≡ l
+    pub room : sc .size + length (pushedAll st active xmax cur p sc (cellsOf n at pg) s) ≤ l
+    pub few : sc .size + length (pushedAll st active xmax cur p sc (cellsOf n at pg) s) ≤ 9223372036854775807
+    pub same : written (foldCells (scanned st active xmax cur p) sc (cellsOf n at pg)) (put (sc .size) (pushedAll st active xmax cur p sc (cellsOf n at pg) s) out) ≡ goal
 
-  pub writing-start : (sc : Scan) (out : List ℕ) {pg : List ℕ} {m : ℕ} → pg ≡ page p s → m ≡ cellCount pg → Waits used (sc .best) s
+  pub writing-start : (sc : Scan) (out : List ℕ) {pg : List ℕ} {n : ℕ} → pg ≡ page p s → n ≡ cellCount pg → Sound p (page p s) → Waits (sc .wait) s
       → sc .size + length (pushedAll st active xmax cur p sc (cells (page p s)) s) ≤ length out
       → sc .size + length (pushedAll st active xmax cur p sc (cells (page p s)) s) ≤ 9223372036854775807
-      → Writing (length out) (passLeaf st active xmax cur p sc s out) sc (cellsOf m 12 pg) out
-  unfolding passLeaf
-  writing-start sc out here e w r f = rw (e, here) (record { waits = w; long = refl; room = r; few = f; same = refl })
+      → Writing (length out) (passLeaf st active xmax cur p sc s out) pg n 12 sc out
+  unfolding passLeaf scanLeaf
+  writing-start sc out here count d w r f =
+      rw (count, here) (record { going = going-start p (page p s) d; within = omega arith; waits = w; long = refl; room = r; few = f; same = refl })
 
-  module _ {n : ℕ} {goal : Written Scan} {sc : Scan} {out : List ℕ} where
-    pub writing-end : {xs : List Cell} → Writing n goal sc xs out → xs ≡ [] → written sc out ≡ goal
+  module _ {l : ℕ} {goal : Written Scan} {pg : List ℕ} {n at : ℕ} {sc : Scan} {out : List ℕ} (w : Writing l goal pg n at sc out) where
+    pub writing-end : n ≤ 0 → written sc out ≡ goal
     unfolding pushedAll foldCells
-    writing-end {xs} w e = ap (λ (o : List ℕ). written sc o) (sym (put-nil (sc .size) out)) ∙ (rw e at (w .same))
+    writing-end h = ap (λ (o : List ℕ). written sc o) (sym (put-nil (sc .size) out)) ∙ (rw (cells-none at pg n h) at (w .same))
 
-    writing-on : (x : Cell) (xs : List Cell) → used * 4096 ≤ length s → Waits used (Best.At p x) s → Writing n goal sc (x ∷ xs) out
-        → Writing n goal (scanned st active xmax cur p sc x) xs (put (sc .size) (pushed st active xmax cur sc x s) out)
-    unfolding pushedAll foldCells
-    writing-on x xs room v w =
-        let f = scanned st active xmax cur p sc x in
-        let y = pushed st active xmax cur sc x s in
-        let z = pushedAll st active xmax cur p f xs s in
-        let size : f .size ≡ sc .size + length y = scanned-size used p s sc x st active xmax cur (w .waits) room in
-        let l = length-append y z in
-        let fits : sc .size + length y ≤ length out = omega (arith, w .room, w .long) in
-        record {
-          waits = scanned-waits used p s sc x st active xmax cur (w .waits) v;
-          long = length-put (sc .size) y out fits ∙ w .long;
-          room = omega (arith, w .room);
-          few = omega (arith, w .few);
-          same = ap (λ (o : List ℕ). written (foldCells (scanned st active xmax cur p) f xs) o) (put-after-at (sc .size) (f .size) y z out (omega arith) size) ∙ w .same;
-        }
+    module _ (t : Turn p n at pg) where
+      abbrev pushes : List ℕ
+      pushes = pushed st active xmax cur p sc (t .cell) s
 
-    -- at a turn of the loop
-    module _ (at m : ℕ) (pg : List ℕ) {r : CellRead} {x : Cell} (left : 0 < m) (read : r ≡ cellAt pg at) (got : r ≡ CellRead.Got x) (w : Writing n goal sc (cellsOf m at pg) out) where
-      pub writing-turn : {d : Scan} {t : List ℕ} → used * 4096 ≤ length s → p < used → pg ≡ page p s
-          → written d t ≡ written (scanned st active xmax cur p sc x) (put (sc .size) (pushed st active xmax cur sc x s) out) → Writing n goal d (cellsOf (m - 1) (x .next) pg) t
-      writing-turn {d} {t} room h here e =
-          let a : d ≡ scanned st active xmax cur p sc x = ap (λ (y : Written Scan). y .answer) e in
-          let b : t ≡ put (sc .size) (pushed st active xmax cur sc x s) out = ap (λ (y : Written Scan). y .output) e in
-          let v = waits-read used p at s h (rw here at (sym read ∙ got)) in
-          rw (a, b) (writing-on x (cellsOf (m - 1) (x .next) pg) room v (rw (cells-on at pg read m left got) at w))
+      abbrev later : List ℕ
+      later = pushedAll st active xmax cur p (scanned st active xmax cur p sc (t .cell)) (cellsOf (n - 1) (t .cell .next) pg) s
 
-      module _ {b : Bool} (u : b ≡ visible st active xmax cur (x .version .creator) (x .version .stamp)) (t : b ≡ true) where
-        pub writing-fits : sc .size + length (pushedBy (sc .best) x s) ≤ length out
-        unfolding pushedAll pushed
-        writing-fits =
-            let seen = sym u ∙ t in
-            let k : Writing n goal sc (x ∷ cellsOf (m - 1) (x .next) pg) out = rw (cells-on at pg read m left got) at w in
-            let y = pushedBy (sc .best) x s in
-            let z = pushedAll st active xmax cur p (scanned st active xmax cur p sc x) (cellsOf (m - 1) (x .next) pg) s in
-            let l = length-append y z in
-            let f : sc .size + length (y ++ z) ≤ n = rw seen at (k .room) in
-            omega (arith, k .long)
+      -- what is pushed now comes first
+      split : pushedAll st active xmax cur p sc (cellsOf n at pg) s ≡ pushes ++ later
+      unfolding pushedAll
+      split = rw (t .more)
+
+      fits : sc .size + (length pushes + length later) ≤ l
+      fits = let k = length-append pushes later in omega (arith, w .room, ap length split)
+
+      pub writing-fits : {end : ℕ} {r : Chosen} {b : Bool} → b ≡ visible st active xmax cur (leAt 8 pg (at + 8 + 1)) (stampIn pg (at + 8 + 9)) → b ≡ true
+          → end ≡ at + 8 + leAt 4 pg (at + 4)
+          → r ≡ record { from = p * 4096 + at; to = p * 4096 + end; key = rankAt pg at; creator = leAt 8 pg (at + 8 + 1) } → sc .size + length (pushedBy (sc .wait) r s) ≤ length out
+      unfolding pushed
+      writing-fits u h e q =
+          let seen = sym (turn-visible t st active xmax cur u) ∙ h in
+          let is : pushed st active xmax cur p sc (t .cell) s ≡ pushedBy (sc .wait) (chosenOf p (t .cell)) s = rw seen in
+          let m = ap (λ (x : Chosen). length (pushedBy (sc .wait) x s)) (turn-chosen t e q) in
+          omega (arith, fits, w .long, m, ap length is)
+
+      pub writing-turn : (used : ℕ) {end : ℕ} {d : Scan} {y : List ℕ} → used * 4096 ≤ length s → p < used → pg ≡ page p s → length pg ≡ 4096 → end ≡ at + 8 + leAt 4 pg (at + 4)
+          → written d y ≡ written (scanned st active xmax cur p sc (t .cell)) (put (sc .size) pushes out) → Writing l goal pg (n - 1) end d y
+      unfolding foldCells
+      writing-turn used {end} {d} {y} room h here long e u =
+          let next : end ≡ t .cell .next = e ∙ sym (t .next-is) in
+          let a : d ≡ scanned st active xmax cur p sc (t .cell) = ap (λ (z : Written Scan). z .answer) u in
+          let b : y ≡ put (sc .size) pushes out = ap (λ (z : Written Scan). z .output) u in
+          let f = scanned st active xmax cur p sc (t .cell) in
+          let size : f .size ≡ sc .size + length pushes = scanned-size p s sc st active xmax cur (t .cell) (w .waits) in
+          let k = length-append pushes later in
+          let some : sc .size + length pushes ≤ length out = omega (arith, fits, w .long) in
+          let all : written (foldCells (scanned st active xmax cur p) f (cellsOf (n - 1) (t .cell .next) pg)) (put (sc .size) (pushes ++ later) out) ≡ goal
+          = rw (split, t .more) at (w .same) in
+          rw (next, a, b)
+          (record {
+            going = t .going;
+            within = omega (arith, t .inside);
+            waits = scanned-wait st active xmax cur p sc (t .cell) (λ v. Waits v s) (w .waits) (cell-waits used p at s room h (rw here at (t .read)));
+            long = length-put (sc .size) pushes out some ∙ w .long;
+            room = omega (arith, fits, size);
+            few = omega (arith, w .few, ap length split, size);
+            same = ap (λ (o : List ℕ). written (foldCells (scanned st active xmax cur p) f (cellsOf (n - 1) (t .cell .next) pg)) o) (put-after-at (sc .size) (f .size) pushes later out (omega arith) size) ∙ all;
+          })

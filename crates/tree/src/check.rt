@@ -6,7 +6,6 @@ ghost use Prim.Native.Nat.{_+_, _*_, _≤_, _<_};
 ghost use lib.ListN.{length};
 ghost use Rattle.tree.specs.Check.{within, cellsWithin, soundLeaf, innerSound, checkOf, wellFormed};
 use inner::InnerJudged;
-use leaf::Step;
 
 // No rank is above it.
 pub const MAX_RANK: u32 = 4294967295;
@@ -45,16 +44,14 @@ fn cells_within(pg: &[u8], p: u32, lo: u32, hi: u32) -> bool
     let mut c: u64 = 0;
     let mut ok = true;
     while 0 < left {
-        match leaf::next_cell(pg, p, k, c, at) {
-            Step::Bad(_) => return false,
-            Step::Got(x) => {
-                let v = x.version;
-                ok = ok & is_within(lo, hi, x.key);
-                k = x.key;
-                c = v.creator;
-                at = x.next;
-            }
+        let end = leaf::next_end(pg, k, c, at);
+        if end == 0 {
+            return false;
         }
+        k = page::key::get_rank(pg, at);
+        c = row::read::creator_at(pg, at);
+        ok = ok & is_within(lo, hi, k);
+        at = end;
         left -= 1;
     }
     ok

@@ -20,7 +20,7 @@ use Rattle.leaf.specs.Rows.{Row, rowsOf, rows}
 use Rattle.leaf.specs.declared.Judged.{Judged}
 use Rattle.leaf.specs.declared.find.Run.{Run}
 use Rattle.leaf.specs.declared.find.LeafRun.{LeafRun}
-use Rattle.leaf.proofs.Dividing.{bytes-page}
+use Rattle.leaf.proofs.Bytes.{bytes-page}
 use Rattle.tree.specs.Chain.{stop, go, broken, Told, ok, ill, onSeen, along}
 use Rattle.tree.proofs.Ways.{along-again, along-unused, along-bad, along-last, along-end, along-on}
 use Rattle.listing.specs.Records.{records}

@@ -20,7 +20,7 @@ use Rattle.row.proofs.Exact.{cell-flat, read-is-written, cell-placed}
 use Rattle.leaf.specs.Cells.{onCell, cellsOf}
 use Rattle.leaf.specs.Rows.{Row, rowOf, rowsOf, rowBytes}
 use Rattle.leaf.proofs.Rowing.{endOf}
-use Rattle.leaf.proofs.EditFacts.{Chain}
+use Rattle.leaf.proofs.Chain.{Chain}
 use Rattle.listing.specs.Records.{records}
 
 pub records-append : (xs ys : List Row) → records (xs ++ ys) ≡ records xs ++ records ys

@@ -23,7 +23,7 @@ use Rattle.leaf.specs.declared.find.Run.{Run}
 use Rattle.leaf.specs.declared.find.LeafRun.{LeafRun}
 use Rattle.leaf.proofs.Finding.{order-le, running-below, running-same, running-above}
 use Rattle.leaf.proofs.Rowing.{endOf}
-use Rattle.leaf.proofs.EditFacts.{Chain, chain-cells, chain-back, chain-inside, Rising, judged-leaf}
+use Rattle.leaf.proofs.Chain.{Chain, chain-cells, chain-back, chain-inside, Rising, judged-leaf}
 use Rattle.tree.specs.Chain.{stop, go, broken}
 use Rattle.listing.specs.Records.{records}
 use Rattle.versions.specs.Gather.{ofKey, wanted, ends, lookRows, runOf, againOf}

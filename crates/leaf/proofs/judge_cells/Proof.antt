@@ -1,5 +1,5 @@
 -- `leaf::judge_cells` meets its contract: the walk that is left gives what the whole walk gives. Assumes nothing.
-use Rattle.leaf.proofs.Walking.{walk, nothing, walk-bad, walk-in, walk-done, step-next, judged-ok, judged-bad}
+use Rattle.leaf.proofs.Walking.{walk, nothing, walk-stuck, walk-on, walk-done, stepped, judged-ok, judged-bad}
 use native.Mathlib.Omega.{arith}
 use Prim.Native.Nat.{_≤_}
 use mathlib.Core.Path.{_≡_, refl, sym, _∙_}
@@ -16,17 +16,20 @@ abbrev μ-loop : tie.MeasureT-loop
 loop-holds : tie.Need-loop-holds Inv-loop μ-loop
 loop-holds c = (omega arith, refl)
 
-next-cell-requires : tie.Need-next-cell-requires Inv-loop μ-loop
-next-cell-requires c κs = search needs
+next-end-requires : tie.Need-next-end-requires Inv-loop μ-loop
+next-end-requires c κs = search needs
 
-enum-known-f : tie.Need-enum-known-f Inv-loop μ-loop
-enum-known-f c = search needs
+fault-at-requires : tie.Need-fault-at-requires Inv-loop μ-loop
+fault-at-requires c κs = search needs
 
 returns : tie.Need-returns Inv-loop μ-loop
-returns c = judged-bad _ _ _ (sym (walk-bad _ _ _ _ _ _ _ _ (search needs) (c .before .before .before .next-cell .ensures) (c .before .f .given .1)) ∙ c .before .before .before .before .before .loop .inv .1)
+returns c = judged-bad _ _ _ (sym (walk-stuck _ _ _ _ _ _ _ (c .before .before .next-end .ensures) _ (search needs) (search needs) (c .fault-at .ensures)) ∙ c .before .before .before .before .loop .inv .1)
 
-enum-known-x : tie.Need-enum-known-x Inv-loop μ-loop
-enum-known-x c = search needs
+get-rank-requires : tie.Need-get-rank-requires Inv-loop μ-loop
+get-rank-requires c κs = let h = stepped _ 0 _ _ _ (c .before .next-end .ensures) (search needs) in omega (arith, h .low, h .inside)
+
+creator-at-requires : tie.Need-creator-at-requires Inv-loop μ-loop
+creator-at-requires c κs = let h = stepped _ 0 _ _ _ (c .before .before .next-end .ensures) (search needs) in omega (arith, h .low, h .inside)
 
 sub-left : tie.Need-sub-left Inv-loop μ-loop
 sub-left c = search needs
@@ -35,7 +38,7 @@ loop-less : tie.Need-loop-less Inv-loop μ-loop
 loop-less c = search needs
 
 loop-again : tie.Need-loop-again Inv-loop μ-loop
-loop-again c = (omega (arith, step-next _ _ _ _ _ (c .before .before .before .before .next-cell .ensures) (c .before .before .x .given .1)), walk-in _ _ _ _ _ _ _ _ (search needs) (c .before .before .before .before .next-cell .ensures) (c .before .before .x .given .1) refl ∙ c .before .before .before .before .before .before .loop .inv .1)
+loop-again c = (omega (arith, stepped _ 0 _ _ _ (c .before .before .before .next-end .ensures) (search needs) .inside), walk-on _ _ _ _ _ _ _ (c .before .before .before .next-end .ensures) _ (search needs) (search needs) (c .before .get-rank .ensures) (c .creator-at .ensures) (λ x r u v w. refl) ∙ c .before .before .before .before .before .loop .inv .1)
 
 returns-2 : tie.Need-returns-2 Inv-loop μ-loop
 returns-2 c = judged-ok _ _ _ (sym (walk-done _ _ _ _ _ _ _ _ (search needs)) ∙ c .before .loop .inv .1)
@@ -47,10 +50,11 @@ judge-cells-spec =
     Inv-loop
     μ-loop
     loop-holds
-    next-cell-requires
-    enum-known-f
+    next-end-requires
+    fault-at-requires
     returns
-    enum-known-x
+    get-rank-requires
+    creator-at-requires
     sub-left
     loop-less
     loop-again

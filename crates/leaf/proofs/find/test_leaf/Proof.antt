@@ -1,11 +1,12 @@
 -- `leaf::find::test_leaf` meets its contract: the walk that is left gives what the whole walk gives. Assumes nothing.
-use Rattle.leaf.proofs.Finding.{loop-type, loop-bad, loop-done}
-use Rattle.leaf.proofs.Walking.{walk, walk-bad, walk-in, walk-done, step-next}
+use Rattle.leaf.proofs.Finding.{joined-skip, read-is, loop-type, loop-bad, loop-done}
+use Rattle.leaf.proofs.Walking.{walk, walk-stuck, walk-on, walk-done, stepped}
 use Rattle.leaf.specs.declared.find.LeafTest.{LeafTest}
 use Rattle.leaf.specs.Find.{joined, testLeaf}
 use Rattle.mvcc.specs.Lists.{lookup}
 use native.Mathlib.Omega.{arith}
 use Prim.Native.Nat.{_≤_}
+use mathlib.Core.Logic.{⊎-elim}
 use mathlib.Core.Path.{_≡_, refl, sym, _∙_}
 use borrow.Author.Needs.{needs}
 use Rattle.leaf.proofs.find.test_leaf.Statement.{statement}
@@ -36,21 +37,24 @@ cast-left c = search needs
 loop-holds : tie.Need-loop-holds Inv-loop μ-loop
 loop-holds c = (omega arith, refl)
 
-next-cell-requires : tie.Need-next-cell-requires Inv-loop μ-loop
-next-cell-requires c κs = search needs
+next-end-requires : tie.Need-next-end-requires Inv-loop μ-loop
+next-end-requires c κs = search needs
 
-enum-known-f : tie.Need-enum-known-f Inv-loop μ-loop
-enum-known-f c = search needs
+fault-at-requires : tie.Need-fault-at-requires Inv-loop μ-loop
+fault-at-requires c κs = search needs
 
 returns-2 : tie.Need-returns-2 Inv-loop μ-loop
 unfolding testLeaf
-returns-2 c = loop-bad (λ e b l. LeafTest.Ok b l) (λ f. LeafTest.Bad f) _ _ _ _ _ (omega arith) (c .before .before .before .before .before .before .get-cell-count .ensures) (sym (walk-bad _ _ _ _ _ _ _ _ (search needs) (c .before .before .before .next-cell .ensures) (c .before .f .given .1)) ∙ c .before .before .before .before .before .loop .inv .1)
+returns-2 c = loop-bad (λ e b l. LeafTest.Ok b l) (λ f. LeafTest.Bad f) _ _ _ _ _ (omega arith) (c .before .before .before .before .before .get-cell-count .ensures) (sym (walk-stuck _ _ _ _ _ _ _ (c .before .before .next-end .ensures) _ (search needs) (search needs) (c .fault-at .ensures)) ∙ c .before .before .before .before .loop .inv .1)
 
-enum-known-x : tie.Need-enum-known-x Inv-loop μ-loop
-enum-known-x c = search needs
+get-rank-requires : tie.Need-get-rank-requires Inv-loop μ-loop
+get-rank-requires c κs = let h = stepped _ 0 _ _ _ (c .before .next-end .ensures) (search needs) in omega (arith, h .low, h .inside)
 
-joined-of-requires : tie.Need-joined-of-requires Inv-loop μ-loop
-joined-of-requires c κs = search needs
+creator-at-requires : tie.Need-creator-at-requires Inv-loop μ-loop
+creator-at-requires c κs = let h = stepped _ 0 _ _ _ (c .before .before .next-end .ensures) (search needs) in omega (arith, h .low, h .inside)
+
+joined-at-requires : tie.Need-joined-at-requires Inv-loop μ-loop
+joined-at-requires c κs = search needs
 
 sub-left : tie.Need-sub-left Inv-loop μ-loop
 sub-left c = search needs
@@ -59,7 +63,7 @@ loop-less : tie.Need-loop-less Inv-loop μ-loop
 loop-less c = search needs
 
 loop-again : tie.Need-loop-again Inv-loop μ-loop
-loop-again c = (omega (arith, step-next _ _ _ _ _ (c .before .before .before .before .before .next-cell .ensures) (c .before .before .before .x .given .1)), walk-in _ _ _ _ _ _ _ _ (search needs) (c .before .before .before .before .before .next-cell .ensures) (c .before .before .before .x .given .1) (c .joined-of .ensures) ∙ c .before .before .before .before .before .before .before .loop .inv .1)
+loop-again c = (omega (arith, stepped _ 0 _ _ _ (c .before .before .before .before .next-end .ensures) (search needs) .inside), walk-on _ _ _ _ _ _ _ (c .before .before .before .before .next-end .ensures) _ (search needs) (search needs) (c .before .before .get-rank .ensures) (c .before .creator-at .ensures) (λ x r u v w. ⊎-elim (λ z. z .2 ∙ read-is _ _ r (z .1 .ensures)) (λ z. z .1 ∙ joined-skip _ _ _ _ _ _ _ _ _ (λ q. z .0 .left (c .before .before .get-rank .ensures ∙ (u ∙ q)))) (c .if3 .came)) ∙ c .before .before .before .before .before .before .loop .inv .1)
 
 returns-3 : tie.Need-returns-3 Inv-loop μ-loop
 unfolding testLeaf
@@ -77,11 +81,12 @@ test-leaf-spec =
     get-cell-count-requires
     cast-left
     loop-holds
-    next-cell-requires
-    enum-known-f
+    next-end-requires
+    fault-at-requires
     returns-2
-    enum-known-x
-    joined-of-requires
+    get-rank-requires
+    creator-at-requires
+    joined-at-requires
     sub-left
     loop-less
     loop-again

@@ -5,9 +5,9 @@ use native.Mathlib.Omega.{arith}
 use borrow.Author.Needs.{needs}
 use Rattle.leaf.specs.Place.{placeStep, placeOf, placeLeaf}
 use Rattle.leaf.specs.declared.place.LeafPlace.{LeafPlace}
-use Rattle.leaf.proofs.Walking.{walk, walk-bad, walk-in, walk-done, step-next}
+use Rattle.leaf.proofs.Walking.{walk, walk-stuck, walk-on, walk-done, stepped}
 use Rattle.leaf.proofs.Finding.{loop-type, loop-bad, loop-done}
-use Rattle.leaf.proofs.Placing.{place-count}
+use Rattle.leaf.proofs.Placing.{place-count, place-past}
 use Rattle.leaf.proofs.place.place_in_leaf.Statement.{statement}
 use Rattle.leaf.proofs.place.place_in_leaf.Tie as tie
 
@@ -39,20 +39,21 @@ cast-left c = search needs
 loop-holds : tie.Need-loop-holds Inv-loop μ-loop
 loop-holds c = (omega arith, refl, omega arith)
 
-next-cell-requires : tie.Need-next-cell-requires Inv-loop μ-loop
-next-cell-requires c κs = search needs
+next-end-requires : tie.Need-next-end-requires Inv-loop μ-loop
+next-end-requires c κs = search needs
 
-enum-known-f : tie.Need-enum-known-f Inv-loop μ-loop
-enum-known-f c = search needs
+fault-at-requires : tie.Need-fault-at-requires Inv-loop μ-loop
+fault-at-requires c κs = search needs
 
 returns-2 : tie.Need-returns-2 Inv-loop μ-loop
 unfolding placeLeaf placeOf
-returns-2 c =
-    loop-bad (λ e b l. LeafPlace.Ok b e) (λ f. LeafPlace.Bad f) _ _ 0 _ _ (omega arith) (c .before .before .before .before .before .before .get-cell-count .ensures)
-    (sym (walk-bad _ _ _ _ _ _ _ _ (search needs) (c .before .before .before .next-cell .ensures) (c .before .f .given .1)) ∙ c .before .before .before .before .before .loop .inv .1)
+returns-2 c = loop-bad (λ e b l. LeafPlace.Ok b e) (λ f. LeafPlace.Bad f) _ _ 0 _ _ (omega arith) (c .before .before .before .before .before .get-cell-count .ensures) (sym (walk-stuck _ _ _ _ _ _ _ (c .before .before .next-end .ensures) _ (search needs) (search needs) (c .fault-at .ensures)) ∙ c .before .before .before .before .loop .inv .1)
 
-enum-known-x : tie.Need-enum-known-x Inv-loop μ-loop
-enum-known-x c = search needs
+get-rank-requires : tie.Need-get-rank-requires Inv-loop μ-loop
+get-rank-requires c κs = let h = stepped _ 0 _ _ _ (c .before .next-end .ensures) (search needs) in omega (arith, h .low, h .inside)
+
+creator-at-requires : tie.Need-creator-at-requires Inv-loop μ-loop
+creator-at-requires c κs = let h = stepped _ 0 _ _ _ (c .before .before .next-end .ensures) (search needs) in omega (arith, h .low, h .inside)
 
 past-requires : tie.Need-past-requires Inv-loop μ-loop
 past-requires c κs = search needs
@@ -64,12 +65,7 @@ loop-less : tie.Need-loop-less Inv-loop μ-loop
 loop-less c = search needs
 
 loop-again : tie.Need-loop-again Inv-loop μ-loop
-loop-again c = (
-  omega (arith, step-next _ _ _ _ _ (c .before .before .before .before .before .next-cell .ensures) (c .before .before .before .x .given .1)),
-  walk-in _ _ _ _ _ _ _ _ (search needs) (c .before .before .before .before .before .next-cell .ensures) (c .before .before .before .x .given .1) (c .past .ensures)
-      ∙ c .before .before .before .before .before .before .before .loop .inv .1,
-  omega (arith, place-count _ _ _ (c .before .before .before .x .given .0 .0) (c .past .ensures)),
-)
+loop-again c = (omega (arith, stepped _ 0 _ _ _ (c .before .before .before .before .next-end .ensures) (search needs) .inside), walk-on _ _ _ _ _ _ _ (c .before .before .before .before .next-end .ensures) _ (search needs) (search needs) (c .before .before .get-rank .ensures) (c .before .creator-at .ensures) (λ x r u v w. place-past _ _ _ x (c .before .before .get-rank .ensures ∙ u) (c .before .creator-at .ensures ∙ v) w (c .past .ensures)) ∙ c .before .before .before .before .before .before .loop .inv .1, omega (arith, place-count _ _ _ _ _ _ (c .past .ensures)))
 
 returns-3 : tie.Need-returns-3 Inv-loop μ-loop
 unfolding placeLeaf placeOf
@@ -89,10 +85,11 @@ place-in-leaf-spec =
     get-cell-count-requires
     cast-left
     loop-holds
-    next-cell-requires
-    enum-known-f
+    next-end-requires
+    fault-at-requires
     returns-2
-    enum-known-x
+    get-rank-requires
+    creator-at-requires
     past-requires
     sub-left
     loop-less

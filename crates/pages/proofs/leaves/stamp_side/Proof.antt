@@ -1,4 +1,4 @@
--- `pages::leaves::stamp_side` is safe: what `leaf` requires was tested or is required.
+-- `pages::leaves::stamp_side` is safe: what `edits` requires was tested or is required.
 use native.Mathlib.Omega.{arith}
 use borrow.Author.Needs.{needs}
 use Rattle.pages.proofs.leaves.stamp_side.Statement.{statement}

@@ -5,7 +5,7 @@ use Prim.Native.Nat.{ℕ, _≤_}
 use native.Mathlib.Omega.{arith}
 use Rattle.row.specs.declared.Cell.{Cell}
 use Rattle.leaf.proofs.Finding.{loop-type, loop-bad, loop-done}
-use Rattle.leaf.proofs.Walking.{walk, walk-bad, walk-in, walk-done, step-next}
+use Rattle.leaf.proofs.Walking.{walk, walk-stuck, walk-on, walk-done, stepped}
 use Rattle.tree.specs.Check.{within, cellsWithin}
 use borrow.Author.Needs.{needs}
 use Rattle.tree.proofs.check.cells_within.Statement.{statement}
@@ -37,18 +37,18 @@ cast-left c = search needs
 loop-holds : tie.Need-loop-holds Inv-loop μ-loop
 loop-holds c = (omega arith, refl)
 
-next-cell-requires : tie.Need-next-cell-requires Inv-loop μ-loop
-next-cell-requires c κs = search needs
-
-enum-told : tie.Need-enum-told Inv-loop μ-loop
-enum-told c = search needs
+next-end-requires : tie.Need-next-end-requires Inv-loop μ-loop
+next-end-requires c κs = search needs
 
 returns-2 : tie.Need-returns-2 Inv-loop μ-loop
 unfolding cellsWithin
-returns-2 c = loop-bad (λ e b l. b) (λ f. false) (more _ _) _ 0 _ true (omega arith) (c .before .before .before .before .before .get-cell-count .ensures) (sym (walk-bad _ _ _ _ _ _ _ _ (search needs) (c .before .before .next-cell .ensures) (c .enum-told .given .1)) ∙ c .before .before .before .before .loop .inv .1)
+returns-2 c = loop-bad (λ e b l. b) (λ f. false) (more _ _) _ 0 _ true (omega arith) (c .before .before .before .before .get-cell-count .ensures) (sym (walk-stuck _ _ _ _ _ _ _ (c .before .next-end .ensures) _ (search needs) (search needs) refl) ∙ c .before .before .before .loop .inv .1)
 
-enum-known-x : tie.Need-enum-known-x Inv-loop μ-loop
-enum-known-x c = search needs
+get-rank-requires : tie.Need-get-rank-requires Inv-loop μ-loop
+get-rank-requires c κs = let h = stepped _ 0 _ _ _ (c .before .next-end .ensures) (search needs) in omega (arith, h .low, h .inside)
+
+creator-at-requires : tie.Need-creator-at-requires Inv-loop μ-loop
+creator-at-requires c κs = let h = stepped _ 0 _ _ _ (c .before .before .next-end .ensures) (search needs) in omega (arith, h .low, h .inside)
 
 is-within-requires : tie.Need-is-within-requires Inv-loop μ-loop
 is-within-requires c κs = search needs
@@ -60,7 +60,7 @@ loop-less : tie.Need-loop-less Inv-loop μ-loop
 loop-less c = search needs
 
 loop-again : tie.Need-loop-again Inv-loop μ-loop
-loop-again c = (omega (arith, step-next _ _ _ _ _ (c .before .before .before .before .before .next-cell .ensures) (c .before .before .before .x .given .1)), walk-in _ _ _ _ _ _ _ _ (search needs) (c .before .before .before .before .before .next-cell .ensures) (c .before .before .before .x .given .1) (ap (λ (b : Bool). c .before .before .before .before .before .before .before .loop .ok && b) (c .is-within .ensures)) ∙ c .before .before .before .before .before .before .before .loop .inv .1)
+loop-again c = (omega (arith, stepped _ 0 _ _ _ (c .before .before .before .before .next-end .ensures) (search needs) .inside), walk-on _ _ _ _ _ _ _ (c .before .before .before .before .next-end .ensures) _ (search needs) (search needs) (c .before .before .get-rank .ensures) (c .before .creator-at .ensures) (λ x r u v w. ap (λ (y : Bool). c .before .before .before .before .before .before .loop .ok && y) (c .is-within .ensures ∙ ap (within _ _) (c .before .before .get-rank .ensures ∙ u))) ∙ c .before .before .before .before .before .before .loop .inv .1)
 
 returns-3 : tie.Need-returns-3 Inv-loop μ-loop
 unfolding cellsWithin
@@ -77,10 +77,10 @@ cells-within-spec =
     get-cell-count-requires
     cast-left
     loop-holds
-    next-cell-requires
-    enum-told
+    next-end-requires
     returns-2
-    enum-known-x
+    get-rank-requires
+    creator-at-requires
     is-within-requires
     sub-left
     loop-less

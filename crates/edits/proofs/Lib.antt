@@ -1,0 +1,5 @@
+pub mod Editing
+pub mod Dividing
+pub mod EditFacts
+pub mod Sweeping
+pub mod VacuumFacts

@@ -1,0 +1,6 @@
+-- What a reader of the contracts of `edits` has to believe.
+pub mod Edit
+pub mod Divide
+pub mod Vacuum
+pub mod EditFacts
+pub mod VacuumFacts
