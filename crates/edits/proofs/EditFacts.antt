@@ -1,30 +1,25 @@
--- The edits of a leaf said over rows, and its division: proofs of the statements of specs/EditFacts. Assumes nothing.
+-- The edits of a leaf said over rows: proofs of the statements of specs/EditFacts. Assumes nothing.
 use mathlib.Core.Path.{_≡_, refl, sym, ap, _∙_, subst}
 use mathlib.Core.List.{List, [], _∷_, _++_, map, map-append, append-assoc, append-nil}
 use Prim.Native.Nat.{ℕ, zero, suc, _+_, _-_}
 use native.Mathlib.Omega.{arith}
 use lib.ListN.{length, take, drop, length-append, length-map, take-append-drop}
-use Rattle.store.specs.Part.{part, zeros, pad, spliced}
-use Rattle.store.proofs.PartLaws.{length-part, part-add}
-use Rattle.store.proofs.SeamLaws.{part-left, part-right, part-whole}
-use Rattle.page.specs.Header.{cellCount, withNodeType, withNextLeaf}
+use Rattle.store.specs.Part.{part, pad, spliced}
+use Rattle.store.proofs.PartLaws.{length-part}
+use Rattle.page.specs.Header.{cellCount}
 use Rattle.row.specs.declared.Cell.{Cell}
 use Rattle.row.proofs.Exact.{cell-placed}
 use Rattle.leaf.specs.Cells.{cells}
 use Rattle.leaf.specs.Rows.{Row, rowOf, rows, rowBytes, rowsBytes, writeRows}
 use Rattle.leaf.specs.Place.{placeOf}
 use Rattle.leaf.specs.RowFacts.{Sound}
-use Rattle.leaf.specs.declared.place.Cut.{Cut}
 use Rattle.leaf.proofs.Rowing.{endOf, rows-append}
 use Rattle.leaf.proofs.Chain.{Chain, chain-cells, chain-right, end-append, judged-leaf, Split, split-at}
 use Rattle.leaf.proofs.Placed.{place-split}
 use Rattle.leaf.proofs.RowFacts.{head-length, count-kept, rows-fill}
 use Rattle.edits.specs.Edit.{withCell, withStamp, without}
-use Rattle.edits.specs.Divide.{leftLeaf, rightLeaf}
-use Rattle.edits.specs.EditFacts.{InsertInserts, StampStamps, OutIsOut, DivideDivides, insertRow, stampRow, bytesOf}
-use Rattle.edits.proofs.Dividing.{spliced-is}
-
--- ---- the edits
+use Rattle.edits.specs.EditFacts.{InsertInserts, StampStamps, OutIsOut, insertRow, stampRow, bytesOf}
+use Rattle.edits.proofs.Editing.{spliced-is}
 
 take-map : (f : Cell → Row) (i : ℕ) (cs : List Cell) → take i (map f cs) ≡ map f (take i cs)
 take-map f zero cs = refl
@@ -117,54 +112,3 @@ out-is-out pg e before out after sound h =
     let n : cellCount pg - length out ≡ length (front ++ back)
     = omega (arith, length-append front back, length-map before f, length-map after f, simp length-append at (ap length h), there .count) in
     rw (b, a, n, spliced-rows (endOf 12 before) (endOf 12 (before ++ out)) e pg [] front [] back (s .front) no-rows (t .back))
-
--- ---- the division
-
--- both sides, of a leaf that begins as pg
-module _ (pg : List ℕ) (left right : List Row) (len : length pg ≡ 4096) where
-  abbrev all : List ℕ
-  all = part 0 12 pg ++ rowsBytes (left ++ right)
-
-  l12 : length (part 0 12 pg) ≡ 12
-  l12 = head-length pg [] len
-
-  left-bytes : part 0 (12 + length (rowsBytes left)) all ≡ part 0 12 pg ++ rowsBytes left
-  left-bytes =
-      let z : 0 + 12 ≡ 12 = omega arith in
-      rw (
-        part-add 0 12 (length (rowsBytes left)) all,
-        z,
-        part-left 0 12 (part 0 12 pg) (rowsBytes (left ++ right)) (omega (arith, l12)),
-        part-whole 12 (part 0 12 pg) l12,
-        part-right 0 (length (rowsBytes left)) 12 (part 0 12 pg) (rowsBytes (left ++ right)) (omega (arith, l12)),
-        rows-append left right,
-        part-left 0 (length (rowsBytes left)) (rowsBytes left) (rowsBytes right) (omega arith),
-        part-whole (length (rowsBytes left)) (rowsBytes left) refl,
-      )
-
-  right-bytes : part (12 + length (rowsBytes left)) (length all - (12 + length (rowsBytes left))) all ≡ rowsBytes right
-  right-bytes =
-      let n : length all - (12 + length (rowsBytes left)) ≡ length (rowsBytes right) = rw (length-append, rows-append left right, length-append) (omega (arith, l12)) in
-      rw (
-        n,
-        part-right (length (rowsBytes left)) (length (rowsBytes right)) (12 + length (rowsBytes left)) (part 0 12 pg) (rowsBytes (left ++ right)) (omega (arith, l12)),
-        rows-append left right,
-        part-right 0 (length (rowsBytes right)) (length (rowsBytes left)) (rowsBytes left) (rowsBytes right) (omega arith),
-        part-whole (length (rowsBytes right)) (rowsBytes right) refl,
-      )
-
-  abbrev cut : Cut
-  cut = record { cells = length left; bytes = length (rowsBytes left) }
-
-  left-rows : (q : ℕ) → leftLeaf q cut all ≡ withNextLeaf q (writeRows left pg)
-  unfolding leftLeaf writeRows
-  left-rows q = rw left-bytes
-
-  right-rows : (next : ℕ) (fresh : List ℕ) → rightLeaf next (length (left ++ right)) cut all fresh ≡ withNextLeaf next (writeRows right (withNodeType 1 fresh))
-  unfolding rightLeaf writeRows
-  right-rows next fresh =
-      let n : length (left ++ right) - length left ≡ length right = rw length-append (omega arith) in
-      rw (right-bytes, n)
-
-pub divide-divides : DivideDivides
-divide-divides pg left right q next len few-left few-right = (left-rows pg left right len q, right-rows pg left right len next (zeros 4096))

@@ -27,6 +27,11 @@ use Rattle.edits.specs.Edit.{gapped, withStamp}
 put-before-at : (a n : ℕ) (x y s : List ℕ) → n ≤ length s → n ≡ a + length x → put a x (put n y s) ≡ put a (x ++ y) s
 put-before-at a n x y s h e = rw e (put-before a x y s (omega arith))
 
+-- a body with the bytes from a up to b replaced by x
+pub spliced-is : (a b e : ℕ) (x s : List ℕ) → spliced a b e x s ≡ part 0 a s ++ (x ++ part b (e - b) s)
+unfolding spliced
+spliced-is a b e x s = refl
+
 pub length-gapped : (a b e m : ℕ) (pg : List ℕ) → length pg ≡ 4096 → a ≤ b → b ≤ e → e ≤ 4096 → a + m + (e - b) ≤ 4096 → length (gapped a b e m pg) ≡ 4096
 unfolding gapped
 length-gapped a b e m pg len h₀ h₁ h₂ h₃ =

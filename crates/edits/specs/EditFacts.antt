@@ -4,8 +4,7 @@ use mathlib.Core.Path.{_≡_}
 use mathlib.Core.List.{List, _∷_, _++_, map}
 use Prim.Native.Nat.{ℕ, _+_, _≤_}
 use lib.ListN.{length, take, drop}
-use Rattle.store.specs.Part.{part, zeros}
-use Rattle.page.specs.Header.{cellCount, withNodeType, withNextLeaf}
+use Rattle.page.specs.Header.{cellCount}
 use Rattle.row.specs.Write.{stampLen}
 use Rattle.row.specs.declared.Stamp.{Stamp}
 use Rattle.row.specs.declared.Cell.{Cell}
@@ -14,7 +13,6 @@ use Rattle.leaf.specs.Rows.{Row, RowFits, rowOf, rows, rowSize, rowBytes, rowsB
 use Rattle.leaf.specs.Place.{placeOf}
 use Rattle.leaf.specs.RowFacts.{Sound}
 use Rattle.edits.specs.Edit.{withCell, withStamp, without}
-use Rattle.edits.specs.Divide.{leftLeaf, rightLeaf}
 
 -- x put in at place i
 abbrev pub insertRow : ℕ → Row → List Row → List Row
@@ -45,11 +43,3 @@ OutIsOut =
     (pg : List ℕ) (e : ℕ) (before out after : List Cell) → Sound pg e → cells pg ≡ before ++ (out ++ after)
     → without (12 + bytesOf pg before) (12 + bytesOf pg before + bytesOf pg out) (length out) e (cellCount pg) pg
     ≡ writeRows (map (rowOf pg) before ++ map (rowOf pg) after) pg
-
--- a leaf divided at a cut between its rows: the left ones, and the right ones in the fresh page
-abbrev pub DivideDivides : Type 0
-DivideDivides =
-    (pg : List ℕ) (left right : List Row) (q next : ℕ) → length pg ≡ 4096 → length (rowsBytes left) ≤ 4084 → length (rowsBytes right) ≤ 4084
-    → (leftLeaf q (record { cells = length left; bytes = length (rowsBytes left) }) (part 0 12 pg ++ rowsBytes (left ++ right)) ≡ withNextLeaf q (writeRows left pg))
-    × (rightLeaf next (length (left ++ right)) (record { cells = length left; bytes = length (rowsBytes left) }) (part 0 12 pg ++ rowsBytes (left ++ right)) (zeros 4096)
-    ≡ withNextLeaf next (writeRows right (withNodeType 1 (zeros 4096))))

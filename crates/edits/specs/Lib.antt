@@ -1,6 +1,3 @@
 -- What a reader of the contracts of `edits` has to believe.
 pub mod Edit
-pub mod Divide
-pub mod Vacuum
 pub mod EditFacts
-pub mod VacuumFacts

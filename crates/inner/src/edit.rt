@@ -58,7 +58,7 @@ pub fn write_top(pg: &mut [u8], left: u32, sep: u32, right: u32)
 }
 
 // Page c of the pool gets the parent q.
-fn adopt_one(pool: &mut [u8], c: u32, q: u32)
+pub fn adopt_one(pool: &mut [u8], c: u32, q: u32)
     requires { ⌜ c * 4096 + 4096 ≤ length (now pool) ⌝ }
     ensures { λ _. ⌜ now (pool .exit) ≡ setPage c (withParent q (page c (now (pool .entry)))) (now (pool .entry)) ⌝ }
 {

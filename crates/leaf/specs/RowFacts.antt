@@ -21,6 +21,6 @@ RowsAreRead =
     (rs : List Row) (pg : List ℕ) → length pg ≡ 4096 → AllFit rs → length (rowsBytes rs) ≤ 4084
     → (rows (writeRows rs pg) ≡ rs) × (nodeType (writeRows rs pg) ≡ nodeType pg) × (nextLeaf (writeRows rs pg) ≡ nextLeaf pg)
 
--- a sound leaf is what writing its rows makes of it, but for the bytes after its last cell
+-- the rows of a sound leaf fill its bytes up to the end of its cells, are as many as it counts, and fit cells
 abbrev pub RowsFill : Type 0
 RowsFill = (pg : List ℕ) (e : ℕ) → Sound pg e → (12 + length (rowsBytes (rows pg)) ≡ e) × (length (rows pg) ≡ cellCount pg) × AllFit (rows pg)

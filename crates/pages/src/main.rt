@@ -1,24 +1,23 @@
-// Replays the recorded pages (standard input; its header says what a line means) against the page functions of `leaf`,
-// `edits` and `inner`. The program's own pool is made by these functions alone, the other one is put together from the
-// list, and after each case every byte of the pages in use is compared.
+// Replays the recorded calls (standard input; its header says what a line means) by the writing calls. The program's own
+// pool is made by these calls alone, the other one is put together from the list, and after each case every byte of the
+// pages in use is compared.
 ghost use mathlib.Core.Path.{_≡_};
 ghost use Prim.Native.Nat.{_≤_, _<_};
 ghost use lib.ListN.{length};
 
-mod above;
 mod data;
-mod leaves;
 mod tally;
 mod told;
 
-use leaves::Dropped;
-use leaves::Outcome;
+use cleans::Cleared;
+use mvcc::Current;
 use page::PAGE_SIZE;
 use page::pool::State;
 use tally::Counts;
 use text::NumberText;
 use text::fields::Head;
 use text::fields::HeadText;
+use writes::Changed;
 
 // The whole list is read at once. One that fills this is refused, since it may go on.
 const ROOM: usize = 1048576;
@@ -66,131 +65,154 @@ fn begin(s: &[u8], ours: &mut [u8], want: &mut [u8], run: Run, counts: &mut Coun
     }
 }
 
-// What a division of the leaf p leads to above it.
-fn went(ours: &mut [u8], run: Run, p: u32, o: Outcome, counts: &mut Counts) -> Run
-    requires { ⌜ (length (now ours) ≡ 2129920) × (p < 520) ⌝ }
-{
-    tally::note(counts, o.place);
-    if !o.divided {
-        return run;
-    }
-    if PAGES <= run.used as u64 {
-        return fault(run, counts);
-    }
-    let st = State {
+fn state_of(run: Run) -> State {
+    State {
         root: run.root,
         used: run.used,
-    };
-    let now = above::settle(ours, st, p, counts);
-    Run {
-        root: now.root,
-        used: now.used,
-        told: run.told,
-        dropped: run.dropped,
+    }
+}
+
+// What a call that changes the tree came to.
+fn changed(run: Run, r: Changed, done: usize, nothing: usize, counts: &mut Counts) -> Run {
+    match r {
+        Changed::Done(st) => {
+            tally::note(counts, done);
+            Run {
+                root: st.root,
+                used: st.used,
+                told: run.told,
+                dropped: run.dropped,
+            }
+        }
+        Changed::Refused(_) => {
+            tally::note(counts, nothing);
+            run
+        }
+    }
+}
+
+// What a call that drops versions came to; 0 is none.
+fn cleared(run: Run, r: Cleared, done: usize, nothing: usize, counts: &mut Counts) -> Run {
+    match r {
+        Cleared::Refused(_) => fault(run, counts),
+        Cleared::Done(n) => {
+            tally::note(counts, if n == 0 { nothing } else { done });
+            Run {
+                root: run.root,
+                used: run.used,
+                told: run.told,
+                dropped: std::num::wrapping_add_u64(run.dropped, n as u64),
+            }
+        }
     }
 }
 
 // The new version of that head, with data of that length and seed
-fn insert_version(ours: &mut [u8], run: Run, p: u32, h: Head, len: usize, seed: u16) -> Outcome
-    requires { ⌜ (length (now ours) ≡ 2129920) × (p < 520) × (len ≤ 4051) ⌝ }
+fn insert_version(ours: &mut [u8], run: Run, h: Head, len: usize, seed: u16) -> Changed
+    requires { ⌜ len ≤ 4051 ⌝ }
 {
     let mut body = [0u8; PAGE_SIZE];
     data::fill(&mut body, len, seed);
-    let st = State {
-        root: run.root,
-        used: run.used,
-    };
-    leaves::insert(ours, st, p, h, &body[0..len])
+    let stamp = h.stamp;
+    let pointer = h.pointer;
+    writes::insert_version_at(
+        ours,
+        state_of(run),
+        h.key,
+        h.creator,
+        stamp,
+        pointer,
+        &body[0..len],
+    )
 }
 
 // KEY CREATOR STAMP POINTER LEN SEED, from field 2 on
-fn insert(s: &[u8], ours: &mut [u8], run: Run, p: u32) -> Outcome
-    requires { ⌜ (length (now ours) ≡ 2129920) × (p < 520) ⌝ }
-{
+fn insert(s: &[u8], ours: &mut [u8], run: Run, counts: &mut Counts) -> Run {
     let HeadText::Got(h) = text::fields::head_of(text::rest(s, 2)) else {
-        return leaves::here(tally::FAULT);
+        return fault(run, counts);
     };
     let NumberText::Got(len) = text::field_number(s, 6, u64::MAX) else {
-        return leaves::here(tally::FAULT);
+        return fault(run, counts);
     };
     let NumberText::Got(seed) = text::number(text::rest(s, 7), u64::MAX) else {
-        return leaves::here(tally::FAULT);
+        return fault(run, counts);
     };
     if (row::MAX_DATA as u64) < len {
-        return leaves::here(tally::FAULT);
+        return fault(run, counts);
     }
     if 65535 < seed {
-        return leaves::here(tally::FAULT);
+        return fault(run, counts);
     }
-    insert_version(ours, run, p, h, len as usize, seed as u16)
+    let r = insert_version(ours, run, h, len as usize, seed as u16);
+    changed(run, r, tally::INSERTED, tally::UNDIVIDABLE, counts)
+}
+
+// The stamp of d on what the list's snapshot of that xmax sees
+fn stamp_key(ours: &mut [u8], run: Run, bits: u32, xmax: u64, d: u64) -> Changed {
+    let active: [u64; 1] = [7];
+    let ids: [u64; 5] = [3, 4, 6, 8, 9];
+    let states: [u8; 5] = [3, 2, 1, 3, 2];
+    claims::mark_at(
+        ours,
+        state_of(run),
+        page::key::flip32(bits),
+        d,
+        xmax,
+        &active,
+        Current::Nobody,
+        &ids,
+        &states,
+    )
 }
 
 // KEY XMAX DELETER, from field 2 on
-fn stamp(s: &[u8], ours: &mut [u8], run: Run, p: u32) -> Outcome
-    requires { ⌜ (length (now ours) ≡ 2129920) × (p < 520) ⌝ }
-{
+fn stamp(s: &[u8], ours: &mut [u8], run: Run, counts: &mut Counts) -> Run {
     let NumberText::Got(bits) = text::field_number(s, 2, u64::MAX) else {
-        return leaves::here(tally::FAULT);
+        return fault(run, counts);
     };
     let NumberText::Got(xmax) = text::field_number(s, 3, u64::MAX) else {
-        return leaves::here(tally::FAULT);
+        return fault(run, counts);
     };
     let NumberText::Got(d) = text::number(text::rest(s, 4), u64::MAX) else {
-        return leaves::here(tally::FAULT);
+        return fault(run, counts);
     };
     if (u32::MAX as u64) < bits {
-        return leaves::here(tally::FAULT);
+        return fault(run, counts);
     }
-    let st = State {
-        root: run.root,
-        used: run.used,
+    let r = stamp_key(ours, run, bits as u32, xmax, d);
+    changed(run, r, tally::STAMPED, tally::NOTHING_STAMPED, counts)
+}
+
+// KEY, from field 2 on
+fn remove(s: &[u8], ours: &mut [u8], run: Run, counts: &mut Counts) -> Run {
+    let NumberText::Got(bits) = text::number(text::rest(s, 2), u64::MAX) else {
+        return fault(run, counts);
     };
-    leaves::stamp(ours, st, p, page::key::flip32(bits as u32), xmax, d)
+    if (u32::MAX as u64) < bits {
+        return fault(run, counts);
+    }
+    let r = cleans::remove_at(ours, state_of(run), page::key::flip32(bits as u32));
+    cleared(run, r, tally::REMOVED, tally::NOTHING_REMOVED, counts)
 }
 
-// KEY or BOUND, from field 2 on: a removal or a vacuum
-fn drop(s: &[u8], pg: &mut [u8], p: u32, vacuuming: bool) -> Dropped
-    requires { ⌜ length (now pg) ≡ 4096 ⌝ }
-{
-    let NumberText::Got(x) = text::number(text::rest(s, 2), u64::MAX) else {
-        return leaves::no_drop(tally::FAULT);
+// BOUND, from field 2 on. A call has a line for each leaf; the first one does it all.
+fn vacuum(s: &[u8], ours: &mut [u8], run: Run, counts: &mut Counts) -> Run {
+    let NumberText::Got(bound) = text::number(text::rest(s, 2), u64::MAX) else {
+        return fault(run, counts);
     };
-    if vacuuming {
-        return leaves::vacuum(pg, x);
-    }
-    if (u32::MAX as u64) < x {
-        return leaves::no_drop(tally::FAULT);
-    }
-    leaves::remove(pg, p, page::key::flip32(x as u32))
+    let ids: [u64; 5] = [3, 4, 6, 8, 9];
+    let states: [u8; 5] = [3, 2, 1, 3, 2];
+    let r = cleans::vacuum_at(ours, state_of(run), bound, &ids, &states);
+    cleared(run, r, tally::VACUUMED, tally::NOTHING_VACUUMED, counts)
 }
 
-fn dropped(run: Run, d: Dropped, counts: &mut Counts) -> Run {
-    tally::note(counts, d.place);
-    Run {
-        root: run.root,
-        used: run.used,
-        told: run.told,
-        dropped: std::num::wrapping_add_u64(run.dropped, d.count as u64),
-    }
-}
-
-// A call on the leaf p, by the letter that its line starts with
-fn call(s: &[u8], kind: u8, ours: &mut [u8], run: Run, p: u32, counts: &mut Counts) -> Run
-    requires { ⌜ (length (now ours) ≡ 2129920) × (p < 520) ⌝ }
-{
-    let a = p as usize * PAGE_SIZE;
-    let e = a + PAGE_SIZE;
+// A call, by the letter that its line starts with
+fn call(s: &[u8], kind: u8, ours: &mut [u8], run: Run, counts: &mut Counts) -> Run {
     match kind {
-        b'i' => {
-            let o = insert(s, ours, run, p);
-            went(ours, run, p, o, counts)
-        }
-        b's' => {
-            let o = stamp(s, ours, run, p);
-            went(ours, run, p, o, counts)
-        }
-        b'r' => dropped(run, drop(s, &mut ours[a..e], p, false), counts),
-        b'v' => dropped(run, drop(s, &mut ours[a..e], p, true), counts),
+        b'i' => insert(s, ours, run, counts),
+        b's' => stamp(s, ours, run, counts),
+        b'r' => remove(s, ours, run, counts),
+        b'v' => vacuum(s, ours, run, counts),
         _ => fault(run, counts),
     }
 }
@@ -246,16 +268,9 @@ fn end(s: &[u8], ours: &[u8], want: &[u8], run: Run, counts: &mut Counts) -> Run
     }
 }
 
-// A line that is about a page
-fn page_line(
-    s: &[u8],
-    kind: u8,
-    ours: &mut [u8],
-    want: &mut [u8],
-    run: Run,
-    counts: &mut Counts,
-) -> Run
-    requires { ⌜ (length (now ours) ≡ 2129920) × (length (now want) ≡ 2129920) ⌝ }
+// p PAGE
+fn page_line(s: &[u8], want: &mut [u8], run: Run, counts: &mut Counts) -> Run
+    requires { ⌜ length (now want) ≡ 2129920 ⌝ }
 {
     let NumberText::Got(p) = text::field_number(s, 1, u64::MAX) else {
         return fault(run, counts);
@@ -263,10 +278,7 @@ fn page_line(
     if PAGES <= p {
         return fault(run, counts);
     }
-    if kind == b'p' {
-        return tell(s, want, run, p as u32, counts);
-    }
-    call(s, kind, ours, run, p as u32, counts)
+    tell(s, want, run, p as u32, counts)
 }
 
 fn line(s: &[u8], ours: &mut [u8], want: &mut [u8], run: Run, counts: &mut Counts) -> Run
@@ -280,18 +292,12 @@ fn line(s: &[u8], ours: &mut [u8], want: &mut [u8], run: Run, counts: &mut Count
         b'#' => run,
         b'n' => begin(s, ours, want, run, counts),
         b'=' => end(s, ours, want, run, counts),
-        _ => page_line(s, kind, ours, want, run, counts),
+        b'p' => page_line(s, want, run, counts),
+        _ => call(s, kind, ours, run, counts),
     }
 }
 
-// The pools' lengths are tested and not required: the prover does not count arrays so long.
-fn replay(s: &[u8], ours: &mut [u8], want: &mut [u8], counts: &mut Counts) {
-    if ours.len() != POOL {
-        return;
-    }
-    if want.len() != POOL {
-        return;
-    }
+fn replay(s: &[u8], ours: &mut [u8; POOL], want: &mut [u8; POOL], counts: &mut Counts) {
     let mut run = Run {
         root: 0,
         used: 0,
@@ -306,9 +312,16 @@ fn replay(s: &[u8], ours: &mut [u8], want: &mut [u8], counts: &mut Counts) {
     }
 }
 
+// Reads the list and answers its length. So long an array goes by a reference to it: lent as a slice, the prover counts it.
+fn read_list(list: &mut [u8; ROOM]) -> usize
+    ensures { λ r. ⌜ r ≤ length (now (list .exit)) ⌝ }
+{
+    io::read_full(libc::STDIN_FILENO, list)
+}
+
 fn main() {
     let mut input = [0u8; ROOM];
-    let n = io::read_full(libc::STDIN_FILENO, &mut input);
+    let n = read_list(&mut input);
     if n == ROOM {
         io::write_all(libc::STDOUT_FILENO, b"the list does not fit\n");
         return;

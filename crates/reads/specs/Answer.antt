@@ -1,6 +1,7 @@
 -- What comes back from a call (document 01, section 6): a number, and what Done gives. Each answer of the code has its
 -- number and values here, and the contracts speak of these.
 use mathlib.Core.Bool.{Bool}
+use mathlib.Core.List.{List}
 use Prim.Native.Nat.{ℕ}
 use Rattle.page.specs.declared.pool.State.{State}
 use Rattle.row.specs.declared.Version.{Version}
@@ -17,6 +18,14 @@ pub data Value (A : Type 0) : Type 0 where
 pub record Outcome (A : Type 0) : Type 0 where
   pub number : ℕ
   pub gives : Value A
+
+-- of a call that may change the pool: its answer, and the pool after it
+pub record Ended (A : Type 0) : Type 0 where
+  pub answer : A
+  pub pool : List ℕ
+
+abbrev pub ended : {A : Type 0} → A → List ℕ → Ended A
+ended a s = record { answer = a; pool = s }
 
 abbrev pub done : {A : Type 0} → A → Outcome A
 done a = record { number = 0; gives = value a }

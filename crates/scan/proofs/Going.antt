@@ -20,7 +20,7 @@ use Rattle.mvcc.specs.declared.Current.{Current}
 use Rattle.leaf.specs.Cells.{Step, cellsOf, structural, stepOf, onStep, judgeCells, judgeLeaf}
 use Rattle.leaf.specs.declared.Judged.{Judged}
 use Rattle.leaf.proofs.Walking.{step-cell}
-use Rattle.scan.specs.Fast.{chosenOf, Sound}
+use Rattle.scan.specs.Fast.{chosenOf, WasJudged}
 use Rattle.scan.specs.declared.pass.Chosen.{Chosen}
 
 -- the n cells that are left, from `at` on, were judged after one of that key and creator
@@ -30,7 +30,7 @@ pub record Going (p n at : ℕ) (pg : List ℕ) : Type 0 where
   end : ℕ
   judged : judgeCells p key creator n at pg ≡ Judged.Ok end
 
-pub going-start : (p : ℕ) (pg : List ℕ) → Sound p pg → Going p (cellCount pg) 12 pg
+pub going-start : (p : ℕ) (pg : List ℕ) → WasJudged p pg → Going p (cellCount pg) 12 pg
 unfolding judgeLeaf
 going-start p pg d = by-type (eqb (nodeType pg) 1) (d .judged)
   where

@@ -16,7 +16,7 @@ use Rattle.row.specs.declared.Cell.{Cell}
 use Rattle.mvcc.specs.Rules.{visible}
 use Rattle.mvcc.specs.declared.Current.{Current}
 use Rattle.leaf.specs.Cells.{cellsOf, foldCells}
-use Rattle.scan.specs.Fast.{chosenOf, stepFrom, scanned, scanLeaf, Sound, Whole}
+use Rattle.scan.specs.Fast.{chosenOf, stepFrom, scanned, scanLeaf, WasJudged, Whole}
 use Rattle.scan.specs.declared.pass.Chosen.{Chosen}
 use Rattle.scan.specs.declared.pass.Wait.{Wait}
 use Rattle.scan.specs.declared.pass.Scan.{Scan}
@@ -62,7 +62,7 @@ module _ (st : ℕ → ℕ) (active : List ℕ) (xmax : ℕ) (cur : Current) (p 
     pub small : sc .size ≤ first + at * 4102
     pub within : at ≤ 4096
 
-  pub measuring-start : (s : List ℕ) (sc : Scan) {pg : List ℕ} {n : ℕ} → pg ≡ page p s → n ≡ cellCount pg → Sound p (page p s) → Whole (sc .wait)
+  pub measuring-start : (s : List ℕ) (sc : Scan) {pg : List ℕ} {n : ℕ} → pg ≡ page p s → n ≡ cellCount pg → WasJudged p (page p s) → Whole (sc .wait)
       → Measuring (scanLeaf st active xmax cur p sc (page p s)) (sc .size) pg n 12 sc
   unfolding scanLeaf
   measuring-start s sc here count d w =

@@ -25,7 +25,7 @@ use Rattle.leaf.specs.declared.Judged.{Judged}
 use Rattle.tree.specs.Chain.{go, broken, Told, ok, ill, onSeen, along}
 use Rattle.tree.proofs.Ways.{along-end, along-on}
 use Rattle.listing.specs.Listed.{Written, written}
-use Rattle.scan.specs.Fast.{scanned, scanLeaf, startScan, fullSize, waitBytes, pushedAll, passLeaf, Pass, lookPass, passAlong, passBytes, passed, Sound, Whole, Waits, Through, Fits}
+use Rattle.scan.specs.Fast.{scanned, scanLeaf, startScan, fullSize, waitBytes, pushedAll, passLeaf, Pass, lookPass, passAlong, passBytes, passed, WasJudged, Whole, Waits, Through, Fits}
 use Rattle.scan.specs.declared.pass.Scan.{Scan}
 use Rattle.scan.proofs.Stepping.{waits-whole, length-wait, both}
 use Rattle.scan.proofs.Measuring.{scanned-more, scanned-wait}
@@ -68,7 +68,7 @@ module _ (st : ℕ → ℕ) (active : List ℕ) (xmax : ℕ) (cur : Current) (us
 
   record FirstLeaf (p : ℕ) (a e : Pass) : Type 0 where
     in-use : p < used
-    sound : Sound p (page p s)
+    sound : WasJudged p (page p s)
     judged : lookPass st active xmax cur s a p (page p s) ≡ go (after p a)
     grows : length (a .bytes) + length (pushedAll st active xmax cur p (a .scan) (cells (page p s)) s) ≤ length (e .bytes)
 
@@ -126,7 +126,7 @@ module _ (st : ℕ → ℕ) (active : List ℕ) (xmax : ℕ) (cur : Current) (us
       pub passing-in : p < used
       passing-in = leaf .in-use
 
-      pub passing-sound : Sound p (page p s)
+      pub passing-sound : WasJudged p (page p s)
       passing-sound = leaf .sound
 
       pub passing-over : m ≤ 0 → ⊥

@@ -23,7 +23,7 @@ use Rattle.mvcc.specs.Rules.{visible}
 use Rattle.mvcc.specs.declared.Current.{Current}
 use Rattle.leaf.specs.Cells.{cellsOf, cells, foldCells}
 use Rattle.listing.specs.Listed.{Written, written}
-use Rattle.scan.specs.Fast.{chosenOf, recordSize, waitingFor, stepFrom, scanned, scanLeaf, waitBytes, pushedBy, pushed, pushedAll, passLeaf, Sound, Waits}
+use Rattle.scan.specs.Fast.{chosenOf, recordSize, waitingFor, stepFrom, scanned, scanLeaf, waitBytes, pushedBy, pushed, pushedAll, passLeaf, WasJudged, Waits}
 use Rattle.scan.specs.declared.pass.Chosen.{Chosen}
 use Rattle.scan.specs.declared.pass.Wait.{Wait}
 use Rattle.scan.specs.declared.pass.Scan.{Scan}
@@ -98,7 +98,7 @@ module _ (st : ℕ → ℕ) (active : List ℕ) (xmax : ℕ) (cur : Current) (p 
     pub few : sc .size + length (pushedAll st active xmax cur p sc (cellsOf n at pg) s) ≤ 9223372036854775807
     pub same : written (foldCells (scanned st active xmax cur p) sc (cellsOf n at pg)) (put (sc .size) (pushedAll st active xmax cur p sc (cellsOf n at pg) s) out) ≡ goal
 
-  pub writing-start : (sc : Scan) (out : List ℕ) {pg : List ℕ} {n : ℕ} → pg ≡ page p s → n ≡ cellCount pg → Sound p (page p s) → Waits (sc .wait) s
+  pub writing-start : (sc : Scan) (out : List ℕ) {pg : List ℕ} {n : ℕ} → pg ≡ page p s → n ≡ cellCount pg → WasJudged p (page p s) → Waits (sc .wait) s
       → sc .size + length (pushedAll st active xmax cur p sc (cells (page p s)) s) ≤ length out
       → sc .size + length (pushedAll st active xmax cur p sc (cells (page p s)) s) ≤ 9223372036854775807
       → Writing (length out) (passLeaf st active xmax cur p sc s out) pg n 12 sc out

@@ -2,7 +2,7 @@
 -- take, and sees whether a key falls. The second lists: the version that is chosen for the key at hand waits until another
 -- key comes.
 use mathlib.Core.Path.{_≡_}
-use mathlib.Core.Bool.{Bool, false, _||_}
+use mathlib.Core.Bool.{false, _||_}
 use mathlib.Core.List.{List, [], _∷_, _++_}
 use Prim.Native.Nat.{ℕ, _+_, _*_, _-_, _≤_}
 use lib.Dec.{ltb, eqb}
@@ -135,7 +135,7 @@ passed x out = written (length x) (put 0 x out)
 -- ---- what the second pass needs
 
 -- the leaf was judged
-pub record Sound (p : ℕ) (pg : List ℕ) : Type 0 where
+pub record WasJudged (p : ℕ) (pg : List ℕ) : Type 0 where
   pub end : ℕ
   pub judged : judgeLeaf p pg ≡ Judged.Ok end
 

@@ -13,7 +13,7 @@ ghost use Rattle.mvcc.specs.Lists.{rising, lookup, Judged};
 ghost use Rattle.mvcc.specs.Rules.{visible};
 ghost use Rattle.leaf.specs.Cells.{cells};
 ghost use Rattle.listing.specs.Listed.{written};
-ghost use Rattle.scan.specs.Fast.{recordSize, waitingFor, stepFrom, scanLeaf, fullSize, waitBytes, pushedBy, pushedAll, passLeaf, passAlong, passBytes, passed, Sound, Whole, Waits, Through, Fits};
+ghost use Rattle.scan.specs.Fast.{recordSize, waitingFor, stepFrom, scanLeaf, fullSize, waitBytes, pushedBy, pushedAll, passLeaf, passAlong, passBytes, passed, WasJudged, Whole, Waits, Through, Fits};
 use mvcc::Current;
 
 // A version that is chosen for its key: where its cell lies in the pool.
@@ -152,7 +152,7 @@ fn measure_leaf(
     p: u32,
     sc: Scan,
 ) -> Scan
-    requires { ⌜ (used * 4096 ≤ length (now pool)) × (p < used) × Judged (now ids) (now states) × (rising (now active) ≡ true) × Sound p (page p (now pool)) × Whole (sc .wait) × (sc .size ≤ 4611686018427387904) ⌝ }
+    requires { ⌜ (used * 4096 ≤ length (now pool)) × (p < used) × Judged (now ids) (now states) × (rising (now active) ≡ true) × WasJudged p (page p (now pool)) × Whole (sc .wait) × (sc .size ≤ 4611686018427387904) ⌝ }
     ensures { λ r. ⌜ r ≡ scanLeaf (lookup (now (ids .entry)) (now (states .entry))) (now (active .entry)) xmax cur p sc (page p (now (pool .entry))) ⌝ }
 {
     let pg = page::pool::page_of(pool, p);
@@ -217,7 +217,7 @@ fn write_leaf(
     p: u32,
     sc: Scan,
 ) -> Scan
-    requires { ⌜ (used * 4096 ≤ length (now pool)) × (p < used) × Judged (now ids) (now states) × (rising (now active) ≡ true) × Sound p (page p (now pool)) × Waits (sc .wait) (now pool) × (sc .size + length (pushedAll (lookup (now ids) (now states)) (now active) xmax cur p sc (cells (page p (now pool))) (now pool)) ≤ length (now out)) × (sc .size + length (pushedAll (lookup (now ids) (now states)) (now active) xmax cur p sc (cells (page p (now pool))) (now pool)) ≤ 9223372036854775807) ⌝ }
+    requires { ⌜ (used * 4096 ≤ length (now pool)) × (p < used) × Judged (now ids) (now states) × (rising (now active) ≡ true) × WasJudged p (page p (now pool)) × Waits (sc .wait) (now pool) × (sc .size + length (pushedAll (lookup (now ids) (now states)) (now active) xmax cur p sc (cells (page p (now pool))) (now pool)) ≤ length (now out)) × (sc .size + length (pushedAll (lookup (now ids) (now states)) (now active) xmax cur p sc (cells (page p (now pool))) (now pool)) ≤ 9223372036854775807) ⌝ }
     ensures { λ r. ⌜ written r (now (out .exit)) ≡ passLeaf (lookup (now (ids .entry)) (now (states .entry))) (now (active .entry)) xmax cur p sc (now (pool .entry)) (now (out .entry)) ⌝ }
 {
     let pg = page::pool::page_of(pool, p);

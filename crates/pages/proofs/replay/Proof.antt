@@ -7,16 +7,10 @@ use Rattle.pages.proofs.replay.Statement.{statement}
 use Rattle.pages.proofs.replay.Tie as tie
 
 abbrev Inv-loop : tie.InvT-loop
-Inv-loop s ours₀ want₀ counts₀ run₀ at₀ ours want counts run at = (length ours ≡ 2129920) × (length want ≡ 2129920)
+Inv-loop s ours₀ want₀ counts₀ run₀ at₀ ours want counts run at = Unit
 
 abbrev μ-loop : tie.MeasureT-loop
 μ-loop s ours₀ want₀ counts₀ run₀ at₀ ours want counts run at = length s - at
-
-returns : tie.Need-returns Inv-loop μ-loop
-returns c = search needs
-
-returns-2 : tie.Need-returns-2 Inv-loop μ-loop
-returns-2 c = search needs
 
 loop-holds : tie.Need-loop-holds Inv-loop μ-loop
 loop-holds c = search needs
@@ -45,14 +39,8 @@ loop-less c = search needs
 loop-again : tie.Need-loop-again Inv-loop μ-loop
 loop-again c = search needs
 
-same-length : tie.Need-same-length Inv-loop μ-loop
-same-length c = search needs
-
-same-length-2 : tie.Need-same-length-2 Inv-loop μ-loop
-same-length-2 c = search needs
-
-returns-3 : tie.Need-returns-3 Inv-loop μ-loop
-returns-3 c = search needs
+returns : tie.Need-returns Inv-loop μ-loop
+returns c = search needs
 
 pub replay-spec : {M : Type 1} → statement M
 replay-spec =
@@ -60,8 +48,6 @@ replay-spec =
     (tie.spec
     Inv-loop
     μ-loop
-    returns
-    returns-2
     loop-holds
     find-requires
     sub-line
@@ -71,6 +57,4 @@ replay-spec =
     add-at
     loop-less
     loop-again
-    same-length
-    same-length-2
-    returns-3)
+    returns)

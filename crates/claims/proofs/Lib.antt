@@ -1,0 +1,3 @@
+-- Laws of `claims` for its own proofs.
+pub mod Stamping
+pub mod Calls

@@ -1,0 +1,2 @@
+-- Laws of `writes` for its own proofs.
+pub mod Calls
