@@ -60,7 +60,7 @@ impl Call {
 pub struct Lists {
     pub ids: Vec<u64>,
     pub states: Vec<u8>,
-    /// Of the plain lookup.
+    /// Of the calls that take no snapshot.
     pub current: Option<u64>,
 }
 
@@ -89,6 +89,11 @@ pub struct Given<'a> {
     pub room: usize,
 }
 
+/// No call writes such words.
+pub fn start_words() -> Words {
+    std::array::from_fn(|i| 0x5EED_0000_0000_0000 + i as u64)
+}
+
 /// All that a call may change. It starts with contents that no call writes.
 #[derive(Clone, PartialEq, Eq)]
 pub struct Outcome {
@@ -102,7 +107,7 @@ impl Outcome {
     pub fn start(room: usize) -> Self {
         Outcome {
             number: 0,
-            words: std::array::from_fn(|i| 0x5EED_0000_0000_0000 + i as u64),
+            words: start_words(),
             out: (0..room).map(|i| 0x80 | (i * 37) as u8).collect(),
         }
     }

@@ -1,5 +1,7 @@
 //! Damaged pools: every call must end and answer as the rules say, which is a
-//! number of its own, and leave pool, words and (unless Done) output as they were.
+//! number of its own. A reading call must leave pool, words and (unless Done) output
+//! as they were. A writing call must leave pool and words as they were unless Done,
+//! and then all but the pages in use; the rules say what those hold.
 use crate::call::{Given, Lists};
 use crate::pages::{self, Page};
 use crate::shapes::{self, Built};
@@ -238,6 +240,93 @@ fn ask(tally: &mut Tally, rng: &mut Rng, b: &Built) {
         given.room = draw::pick(rng, &[length, length + 9, length.saturating_sub(1), 0]);
         tally.by_rule(&given, &call);
     }
+}
+
+/// Every writing call on a damaged tree, with a few pages left or none.
+fn ask_changes(tally: &mut Tally, rng: &mut Rng, b: &mut Built) {
+    tally.pool();
+    let spare = draw::pick(rng, &[0, 1, 2, 3, 4, 5, 6]);
+    b.pool.resize(b.pool.len() + spare * PAGE, 0xEE);
+    let mut lists: Lists = draw::lists(rng);
+    if rng.chance(1, 40) {
+        lists.states.push(1);
+    }
+    for op in draw::changes(rng, &b.keys) {
+        let given = Given {
+            pool: &b.pool,
+            state: b.state,
+            lists: &lists,
+            room: 0,
+        };
+        tally.change_by_rule(&given, &op);
+    }
+}
+
+/// The writing calls on pools that are damaged in that way.
+pub fn run_changes(kind: usize, pools: usize) -> Tally {
+    let (name, damage) = KINDS[kind];
+    let mut tally = Tally::new(format!("written, damaged: {name}"));
+    let mut rng = Rng(700 + kind as u64);
+    for _ in 0..pools {
+        let levels = 1 + rng.below(4) as u32;
+        let mut b = shapes::heavy_tree(&mut rng, levels, 3);
+        damage(&mut rng, &mut b);
+        ask_changes(&mut tally, &mut rng, &mut b);
+    }
+    tally
+}
+
+/// A way down through pages of 510 keys, or of 509, to a full leaf. All else that
+/// the pages name is drawn from the pages in use, the way's own too; about every
+/// second page names one that is not in use.
+fn full_pages(rng: &mut Rng) -> Built {
+    const KEY: i32 = 5;
+    let used = 4 + rng.below(5) as u32;
+    let mut way: Vec<u32> = (0..used).collect();
+    for i in 1..way.len() {
+        way.swap(i, rng.below(i as u64 + 1) as usize);
+    }
+    if let (Some(at), true) = (way.iter().position(|&n| n == 0), rng.chance(1, 3)) {
+        way.swap(0, at);
+    }
+    way.truncate(2 + rng.below(3) as usize);
+    let mut pool = vec![pages::leaf(0, 0, &[]); used as usize];
+    let mut parent = 0;
+    for pair in way.windows(2) {
+        let keys = 510 - usize::from(rng.chance(1, 8));
+        let mut children: Vec<u32> = (0..=keys).map(|_| rng.below(used as u64) as u32).collect();
+        let any = rng.below(keys as u64) as usize;
+        if rng.chance(1, 2) {
+            let at = draw::pick(rng, &[0, 254, 255, 256, 257, keys, any]);
+            children[at] = draw::pick(rng, &[used, used + 1, u32::MAX]);
+        }
+        let any = rng.below(keys as u64) as usize;
+        let at = draw::pick(rng, &[0, 254, 255, 256, keys, any, any]);
+        children[at] = pair[1];
+        let key = |i| if i < at { KEY - 1 } else { KEY + 1 };
+        let rest: Vec<(i32, u32)> = (0..keys).map(|i| (key(i), children[i + 1])).collect();
+        pool[pair[0] as usize] = pages::inner(parent, children[0], &rest);
+        parent = pair[0];
+    }
+    let long = vec![0x77; 2003 + rng.below(21) as usize];
+    let rows = [1, 2].map(|creator| Version::live(KEY, creator, long.clone()));
+    let next = rng.below(used as u64) as u32 * u32::from(rng.chance(1, 4));
+    pool[way[way.len() - 1] as usize] = pages::leaf(parent, next, &rows);
+    Built {
+        pool: pool.concat(),
+        state: State { root: way[0], used },
+        keys: vec![KEY],
+    }
+}
+
+pub fn run_full_pages(pools: usize) -> Tally {
+    let mut tally = Tally::new("written, damaged: full pages");
+    let mut rng = Rng(690);
+    for _ in 0..pools {
+        let mut b = full_pages(&mut rng);
+        ask_changes(&mut tally, &mut rng, &mut b);
+    }
+    tally
 }
 
 pub fn run(kind: usize, pools: usize) -> Tally {

@@ -1,6 +1,9 @@
 //! What document 01 says of the reading calls, read plainly: rows are collected
 //! in lists and judged by sets and sorting, without a thought of cost. It shares
-//! no code with the port or the oracle but the reader of one cell.
+//! no code with the port or the oracle but the reader of one cell. Module writing
+//! has the writing calls.
+pub mod writing;
+
 use crate::call::{Call, Given, Outcome};
 use erbulonge::State;
 use std::cmp::Reverse;
@@ -259,11 +262,14 @@ impl Rules<'_> {
         }
     }
 
-    fn lookup(&self, rows: Vec<Row>) -> Judged<Value> {
+    fn lookup<'r, 'p>(&self, rows: &'r [Row<'p>]) -> Judged<&'r Row<'p>> {
         let seen = rows.iter().filter(|r| self.visible(&r.cell));
         // Of equals the last.
-        let best = seen.max_by_key(|r| r.cell.creator).ok_or(ABSENT)?;
-        Ok(Value::Found(words(best)))
+        seen.max_by_key(|r| r.cell.creator).ok_or(ABSENT)
+    }
+
+    fn conflict(&self, seen: u64, rows: &[Row]) -> bool {
+        rows.iter().any(|r| self.conflicts(seen, &r.cell))
     }
 
     fn listed<'a>(&self, mut rows: Vec<Row<'a>>) -> Vec<Row<'a>> {
@@ -298,39 +304,48 @@ fn listing(rows: &[Row]) -> Value {
     )
 }
 
+/// Of the calls that take no snapshot.
+fn plain(given: &Given) -> Snap {
+    Snap {
+        xmax: u64::MAX,
+        active: Vec::new(),
+        current: given.lists.current,
+    }
+}
+
 /// Refusals 1, 3 and 4.
-fn judge(given: &Given, call: &Call, statuses: &[(u64, u8)]) -> Judged<()> {
+fn judge(
+    given: &Given,
+    snap: Option<&Snap>,
+    takes_statuses: bool,
+    statuses: &[(u64, u8)],
+) -> Judged<()> {
     let whole = given.pool.len().is_multiple_of(PAGE);
     let pages = given.pool.len() / PAGE;
     let good = whole && (1..=65_536).contains(&pages) && given.state.used as usize <= pages;
     require(good, BAD_POOL)?;
-    require(call.snapshot().is_none_or(Snap::ok), BAD_SNAPSHOT)?;
+    require(snap.is_none_or(Snap::ok), BAD_SNAPSHOT)?;
     let paired = given.lists.ids.len() == given.lists.states.len();
     let listed = paired && statuses_ok(statuses);
-    require(!call.takes_statuses() || listed, BAD_STATUSES)
+    require(!takes_statuses || listed, BAD_STATUSES)
 }
 
 fn value(given: &Given, call: &Call) -> Judged<Value> {
     let statuses = given.lists.pairs();
-    judge(given, call, &statuses)?;
+    judge(given, call.snapshot(), call.takes_statuses(), &statuses)?;
     let (pool, state) = (given.pool, given.state);
     let tree = Tree { pool, state };
-    let plain = Snap {
-        xmax: u64::MAX,
-        active: Vec::new(),
-        current: given.lists.current,
-    };
+    let plain = plain(given);
     let rules = Rules {
         snap: call.snapshot().unwrap_or(&plain),
         statuses: &statuses,
     };
     Ok(match call {
         Call::Check => Value::Flag(Check::new(tree).whole().is_ok()),
-        Call::Lookup(key, _) | Call::Find(key) => rules.lookup(tree.of_key(*key)?)?,
-        Call::Conflict(key, seen, _) => {
-            let rows = tree.of_key(*key)?;
-            Value::Flag(rows.iter().any(|r| rules.conflicts(*seen, &r.cell)))
+        Call::Lookup(key, _) | Call::Find(key) => {
+            Value::Found(words(rules.lookup(&tree.of_key(*key)?)?))
         }
+        Call::Conflict(key, seen, _) => Value::Flag(rules.conflict(*seen, &tree.of_key(*key)?)),
         Call::Versions(key) => listing(&tree.of_key(*key)?),
         Call::All => listing(&tree.all()?),
         Call::Visible(_) => listing(&rules.listed(tree.all()?)),

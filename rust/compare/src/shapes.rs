@@ -5,7 +5,7 @@ use crate::draw;
 use crate::pages::{self, Page};
 use erbulonge::State;
 use wire::random::Rng;
-use wire::{PAGE, Version};
+use wire::{MAX_DATA, PAGE, Version};
 
 pub struct Built {
     pub pool: Vec<u8>,
@@ -24,7 +24,12 @@ struct Source<'a> {
     rng: &'a mut Rng,
     low: i32,
     widest: u64,
+    /// Half of the leaves are full but for a few bytes.
+    heavy: bool,
 }
+
+/// Bytes for a leaf's cells.
+const BODY: usize = PAGE - 12;
 
 impl Source<'_> {
     fn version(&mut self) -> Version {
@@ -45,7 +50,62 @@ impl Source<'_> {
         let count = draw::pick(self.rng, &[0, 1, 2, 3, 5, 8]);
         let mut rows: Vec<Version> = (0..count).map(|_| self.version()).collect();
         rows.sort_by_key(|v| (v.key, v.creator));
+        if self.heavy && self.rng.chance(1, 2) {
+            self.fill(&mut rows);
+        }
         Node::Leaf(rows)
+    }
+
+    /// One row's data made longer, so that up to 20 bytes of the leaf are left.
+    fn fill(&mut self, rows: &mut [Version]) {
+        let taken: usize = rows.iter().map(|v| v.cell().len()).sum();
+        let left = self.rng.below(21) as usize;
+        if rows.is_empty() {
+            return;
+        }
+        let at = self.rng.below(rows.len() as u64) as usize;
+        let data = &mut rows[at].data;
+        let length = data.len() + (BODY - taken).saturating_sub(left);
+        data.resize(length.min(MAX_DATA), 0x77);
+    }
+
+    /// A full leaf whose key in the middle no other leaf and no separator has.
+    fn full_leaf(&mut self, middle: &mut i32) -> Node {
+        self.low += 3;
+        let mut rows = vec![self.version(), self.version(), self.version()];
+        for v in &mut rows {
+            self.low += 1;
+            v.key = self.low;
+        }
+        *middle = rows[1].key;
+        self.low += 3;
+        self.fill(&mut rows);
+        Node::Leaf(rows)
+    }
+
+    /// The pages on one way down are full where `full` says so, from the root down;
+    /// it gives the key in the middle of the leaf at its end.
+    fn full_way(&mut self, full: &[bool], middle: &mut i32) -> Node {
+        let Some((&this, below)) = full.split_first() else {
+            return self.full_leaf(middle);
+        };
+        let count = if this { 511 } else { 2 + self.rng.below(4) };
+        let somewhere = self.rng.below(count);
+        let at =
+            draw::pick(self.rng, &[0, 254, 255, 256, 510, somewhere, somewhere]).min(count - 1);
+        let mut nodes = Vec::new();
+        let mut separators = Vec::new();
+        for i in 0..count {
+            if i > 0 {
+                separators.push(self.separator());
+            }
+            nodes.push(if i == at {
+                self.full_way(below, middle)
+            } else {
+                self.node(below.len() as u32 + 1)
+            });
+        }
+        Node::Inner(nodes, separators)
     }
 
     fn separator(&mut self) -> i32 {
@@ -156,19 +216,25 @@ fn litter(rng: &mut Rng, page: &mut Page) {
     }
 }
 
-/// A tree of that many levels whose internal pages have 2 to `widest` + 1 children.
-pub fn tree(rng: &mut Rng, levels: u32, widest: u64) -> Built {
-    let low = draw::pick(rng, &[-9, -9, 0, i32::MIN, i32::MAX - 20]);
-    let root = Source { rng, low, widest }.node(levels);
+/// The pages of a node in a pool with a few pages more, in use or not.
+fn built(rng: &mut Rng, root: &Node, keys: Vec<i32>, root_is_0: bool) -> Built {
     let leaves = root.leaves();
     let used = leaves.len() as u32 + rng.below(4) as u32;
+    let mut numbers = numbers(rng, &leaves, used);
+    if root_is_0 {
+        let last = numbers.len() - 1;
+        match numbers.iter().position(|&n| n == 0) {
+            Some(at) => numbers.swap(at, last),
+            None => numbers[last] = 0,
+        }
+    }
     let mut w = Writer {
-        numbers: numbers(rng, &leaves, used),
+        numbers,
         pages: vec![[0xEE; PAGE]; used as usize + rng.below(3) as usize],
         last_leaf: None,
-        keys: vec![low],
+        keys,
     };
-    let root = w.write(&root, 0);
+    let root = w.write(root, 0);
     for page in &mut w.pages {
         litter(rng, page);
     }
@@ -177,4 +243,43 @@ pub fn tree(rng: &mut Rng, levels: u32, widest: u64) -> Built {
         state: State { root, used },
         keys: w.keys,
     }
+}
+
+fn tree_of(rng: &mut Rng, levels: u32, widest: u64, heavy: bool) -> Built {
+    let low = draw::pick(rng, &[-9, -9, 0, i32::MIN, i32::MAX - 20]);
+    let source = &mut Source {
+        rng,
+        low,
+        widest,
+        heavy,
+    };
+    let root = source.node(levels);
+    built(rng, &root, vec![low], false)
+}
+
+/// A tree of that many levels whose internal pages have 2 to `widest` + 1 children.
+pub fn tree(rng: &mut Rng, levels: u32, widest: u64) -> Built {
+    tree_of(rng, levels, widest, false)
+}
+
+/// The same with leaves that a longer cell divides.
+pub fn heavy_tree(rng: &mut Rng, levels: u32, widest: u64) -> Built {
+    tree_of(rng, levels, widest, true)
+}
+
+/// A tree with a way down to a full leaf, on which the internal pages have 510 keys
+/// where `full` says so, from the root down. Its only key is the one in the middle
+/// of that leaf.
+pub fn full_way(rng: &mut Rng, full: &[bool], root_is_0: bool) -> Built {
+    let mut middle = 0;
+    let source = &mut Source {
+        rng,
+        low: -9,
+        widest: 1,
+        heavy: false,
+    };
+    let root = source.full_way(full, &mut middle);
+    let mut b = built(rng, &root, Vec::new(), root_is_0);
+    b.keys = vec![middle];
+    b
 }

@@ -1,4 +1,4 @@
-//! Well-formed trees: our answers against the oracle's and the rules'.
+//! The reading calls on well-formed trees: our answers against the oracle's and the rules'.
 use crate::call::{Call, Given, Lists, Outcome, ours};
 use crate::tally::Tally;
 use crate::{draw, rule, shapes};
@@ -46,7 +46,7 @@ fn call(
 }
 
 /// Levels, counted along the first children.
-fn levels(e: &dyn Engine) -> usize {
+pub fn levels(e: &dyn Engine) -> usize {
     let below = |n: &u32| {
         let page = e.page(*n);
         (!page::header(&page).leaf).then(|| page::children(&page)[0])
@@ -189,7 +189,7 @@ pub fn built(levels: u32, widest: u64, trees: usize) -> Tally {
 }
 
 /// Status lists of so many ids and states.
-fn statuses_at_limits() -> Vec<Lists> {
+pub fn statuses_at_limits() -> Vec<Lists> {
     let sizes = [(65_536, 65_536), (65_537, 65_537), (3, 2), (2, 3), (0, 1)];
     let lists = sizes.map(|(ids, states)| Lists {
         ids: rising(ids),
@@ -199,7 +199,7 @@ fn statuses_at_limits() -> Vec<Lists> {
     lists.into()
 }
 
-fn rising(n: u64) -> Vec<u64> {
+pub fn rising(n: u64) -> Vec<u64> {
     (0..n).map(|i| 3 * i).collect()
 }
 

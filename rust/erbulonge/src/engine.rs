@@ -1,5 +1,5 @@
-//! The port's reading calls as a `wire::Engine`, for runs against the oracle.
-use crate::{Answer, Found, Snapshot, State, Statuses};
+//! The port as a `wire::Engine`, for runs against the oracle.
+use crate::{Answer, Found, NewVersion, Snapshot, State, Statuses};
 use wire::{Ans, Engine, Op, PAGE, Snap, Version, page, records};
 
 /// A pool of its own with one tree, a status list and a current transaction.
@@ -20,6 +20,15 @@ fn snapshot(s: &Snap) -> Snapshot<'_> {
     }
 }
 
+fn new_version(v: &Version) -> NewVersion<'_> {
+    NewVersion {
+        creator: v.creator,
+        deleter: v.deleter,
+        pointer: v.ptr,
+        data: &v.data,
+    }
+}
+
 impl Port {
     pub fn new(pool: Vec<u8>, state: State) -> Self {
         Port {
@@ -31,6 +40,10 @@ impl Port {
             states: Vec::new(),
             current: None,
         }
+    }
+
+    pub fn check(&self) -> Answer<bool> {
+        self.state.check(&self.pool)
     }
 
     fn statuses(&self) -> Statuses<'_> {
@@ -62,16 +75,49 @@ impl Port {
         answer
     }
 
-    fn create(&mut self) -> Answer<Ans> {
-        self.state = self.state.create(&mut self.pool)?;
+    /// A call that gives a new state.
+    fn change(&mut self, op: &Op) -> Answer<Ans> {
+        let (st, pool, current) = (self.state, &mut self.pool[..], self.current);
+        let (ids, states) = (&self.ids[..], &self.states[..]);
+        let statuses = &Statuses { ids, states };
+        self.state = match op {
+            Op::Create => st.create(pool),
+            Op::Insert(key, data) => st.insert(pool, *key, data, current, statuses),
+            Op::InsertVersion(v) => st.insert_version(pool, v.key, &new_version(v)),
+            Op::Stamp(key, s, deleter) => {
+                st.mark_deleted_visible(pool, *key, *deleter, &snapshot(s), statuses)
+            }
+            Op::PlainStamp(key, deleter) => {
+                st.mark_deleted(pool, *key, *deleter, current, statuses)
+            }
+            Op::PlainDelete(key) => st.delete(pool, *key, current, statuses),
+            Op::Claim(key, s) => st.claim(pool, *key, &snapshot(s), statuses),
+            _ => unreachable!("no call that gives a state: {op:?}"),
+        }?;
         Ok(Ans::Done)
+    }
+
+    /// A call that gives how many versions it dropped.
+    fn clean(&mut self, op: &Op) -> Answer<Ans> {
+        let (st, pool) = (self.state, &mut self.pool[..]);
+        let (ids, states) = (&self.ids[..], &self.states[..]);
+        let dropped = match op {
+            Op::Remove(key) => st.remove_all_versions(pool, *key),
+            Op::Vacuum(bound) => {
+                st.vacuum_deleted_versions(pool, *bound, &Statuses { ids, states })
+            }
+            _ => unreachable!("no call that drops versions: {op:?}"),
+        };
+        dropped.map(|n| Ans::Count(n as u64))
     }
 
     fn answer(&mut self, op: &Op) -> Answer<Ans> {
         let versions = |bytes: &[u8]| Ans::List(records::to_versions(bytes));
         let (st, pool) = (self.state, &self.pool[..]);
         match op {
-            Op::Create => self.create(),
+            Op::Create | Op::Insert(..) | Op::InsertVersion(_) | Op::Stamp(..) => self.change(op),
+            Op::PlainStamp(..) | Op::PlainDelete(_) | Op::Claim(..) => self.change(op),
+            Op::Remove(_) | Op::Vacuum(_) => self.clean(op),
             Op::Find(key) => st
                 .find(pool, *key, self.current, &self.statuses())
                 .map(|f| self.version(*key, f)),
@@ -93,7 +139,7 @@ impl Port {
                 |e, out| st.page_numbers(&e.pool, out),
                 |bytes| Ans::Pages(records::to_pages(bytes)),
             ),
-            _ => unimplemented!("the port has the reading calls only: {op:?}"),
+            Op::Scan(..) => unimplemented!("bounded scans stay with the server"),
         }
     }
 }

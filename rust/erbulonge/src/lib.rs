@@ -2,16 +2,27 @@
 //! pages. Every call takes any pool, state and lists, judges them itself, and
 //! ends with a value or a [`Refusal`]. A refused call changes nothing.
 //!
-//! ```no_run
-//! use erbulonge::{Snapshot, State, Statuses};
+//! A call that changes the tree takes the pool mutably and gives the state to go
+//! on with. Here two transactions want the same row, and neither had finished
+//! when the other's snapshot was taken:
+//!
+//! ```
+//! use erbulonge::{Refusal, Snapshot, State, Statuses};
 //!
 //! let mut pool = vec![0; 64 * 4096];
-//! let tree = State { root: 0, used: 0 }.create(&mut pool).unwrap();
-//! let snapshot = Snapshot { xmax: 20, active: &[12], current: Some(15) };
-//! match tree.find_visible(&pool, 7, &snapshot, &Statuses::default()) {
-//!     Ok(found) => println!("{:?}", found.data(&pool)),
-//!     Err(refusal) => println!("{refusal:?}, number {}", refusal.number()),
-//! }
+//! let none = Statuses::default();
+//! let tree = State { root: 0, used: 0 }.create(&mut pool)?;
+//! let tree = tree.insert(&mut pool, 7, b"room 7, 9:00", Some(5), &none)?;
+//!
+//! let first = Snapshot { xmax: 22, active: &[21], current: Some(20) };
+//! let second = Snapshot { xmax: 22, active: &[20], current: Some(21) };
+//! assert_eq!(tree.find_visible(&pool, 7, &first, &none)?.data(&pool), b"room 7, 9:00");
+//! let tree = tree.claim(&mut pool, 7, &first, &none)?;
+//!
+//! // The second still sees the row, and its claim is refused.
+//! assert_eq!(tree.find_visible(&pool, 7, &second, &none)?.deleter, Some(20));
+//! assert_eq!(tree.claim(&mut pool, 7, &second, &none), Err(Refusal::Conflict));
+//! # Ok::<(), Refusal>(())
 //! ```
 
 pub mod calls;
@@ -63,6 +74,16 @@ impl Found {
     }
 }
 
+/// A version as it is to be stored. Its data may have 4051 bytes.
+#[derive(Debug, Clone, Copy)]
+pub struct NewVersion<'a> {
+    pub creator: u64,
+    pub deleter: Option<u64>,
+    /// Page and slot.
+    pub pointer: Option<(u32, u16)>,
+    pub data: &'a [u8],
+}
+
 /// Why a call was refused, by the rules' names and numbers.
 #[derive(Debug, Clone, Copy, PartialEq, Eq)]
 #[repr(u8)]
@@ -71,7 +92,8 @@ pub enum Refusal {
     BadPool = 1,
     /// A page that the call read is damaged.
     BadTree = 2,
-    /// The active list is over 4096 or does not rise.
+    /// The active list is over 4096 or does not rise; a claim has no current
+    /// transaction, or 0.
     BadSnapshot = 3,
     /// The status list is over 65,536, does not rise, or has a state not 1 to 3.
     BadStatuses = 4,
@@ -133,8 +155,16 @@ fn flag(words: &calls::Words) -> bool {
     words[0] == 1
 }
 
-fn length(words: &calls::Words) -> usize {
+/// Bytes written, or versions dropped.
+fn count(words: &calls::Words) -> usize {
     words[0] as usize
+}
+
+fn state(words: &calls::Words) -> State {
+    State {
+        root: words[0] as u32,
+        used: words[1] as u32,
+    }
 }
 
 fn found(words: &calls::Words) -> Found {
@@ -154,10 +184,7 @@ impl State {
     pub fn create(self, pool: &mut [u8]) -> Answer<State> {
         let mut words = [0; 8];
         let number = calls::create(pool, self, &mut words);
-        answer(number, &words, |w| State {
-            root: w[0] as u32,
-            used: w[1] as u32,
-        })
+        answer(number, &words, state)
     }
 
     /// Whether the tree is well-formed. Refusals: BadPool.
@@ -215,14 +242,14 @@ impl State {
     pub fn versions_of(self, pool: &[u8], key: i32, out: &mut [u8]) -> Answer<usize> {
         let mut words = [0; 8];
         let number = calls::versions_of(pool, self, key, out, &mut words);
-        answer(number, &words, length)
+        answer(number, &words, count)
     }
 
     /// Every version of the tree, as records. Refusals: BadPool, BadTree, Short.
     pub fn all_versions(self, pool: &[u8], out: &mut [u8]) -> Answer<usize> {
         let mut words = [0; 8];
         let number = calls::all_versions(pool, self, out, &mut words);
-        answer(number, &words, length)
+        answer(number, &words, count)
     }
 
     /// The newest version of every key that the snapshot sees, by rising keys,
@@ -236,7 +263,7 @@ impl State {
     ) -> Answer<usize> {
         let mut words = [0; 8];
         let number = calls::scan_visible(pool, self, snapshot, statuses, out, &mut words);
-        answer(number, &words, length)
+        answer(number, &words, count)
     }
 
     /// The numbers of the tree's pages, as records of 10 bytes. Refusals:
@@ -244,6 +271,115 @@ impl State {
     pub fn page_numbers(self, pool: &[u8], out: &mut [u8]) -> Answer<usize> {
         let mut words = [0; 8];
         let number = calls::page_numbers(pool, self, out, &mut words);
-        answer(number, &words, length)
+        answer(number, &words, count)
+    }
+
+    /// A new version of a key that has none to see, created by `current`, or by
+    /// 0. It looks as [`State::find`] does. Refusals: BadPool, BadStatuses,
+    /// BadData, BadTree, Duplicate, Undividable, TooDeep, NoPages.
+    pub fn insert(
+        self,
+        pool: &mut [u8],
+        key: i32,
+        data: &[u8],
+        current: Option<u64>,
+        statuses: &Statuses,
+    ) -> Answer<State> {
+        let mut words = [0; 8];
+        let number = calls::insert(pool, self, key, data, current, statuses, &mut words);
+        answer(number, &words, state)
+    }
+
+    /// One more version of a key, as it is given. Refusals: BadPool, BadData,
+    /// BadTree, Undividable, TooDeep, NoPages.
+    pub fn insert_version(self, pool: &mut [u8], key: i32, version: &NewVersion) -> Answer<State> {
+        let mut words = [0; 8];
+        let number = calls::insert_version(pool, self, key, version, &mut words);
+        answer(number, &words, state)
+    }
+
+    /// The version that [`State::find_visible`] finds gets the deleter's stamp.
+    /// Refusals: BadPool, BadSnapshot, BadStatuses, BadTree, Absent, TooDeep,
+    /// NoPages.
+    pub fn mark_deleted_visible(
+        self,
+        pool: &mut [u8],
+        key: i32,
+        deleter: u64,
+        snapshot: &Snapshot,
+        statuses: &Statuses,
+    ) -> Answer<State> {
+        let mut words = [0; 8];
+        let number =
+            calls::mark_deleted_visible(pool, self, key, deleter, snapshot, statuses, &mut words);
+        answer(number, &words, state)
+    }
+
+    /// The version that [`State::find`] finds gets the deleter's stamp.
+    /// Refusals: BadPool, BadStatuses, BadTree, Absent, TooDeep, NoPages.
+    pub fn mark_deleted(
+        self,
+        pool: &mut [u8],
+        key: i32,
+        deleter: u64,
+        current: Option<u64>,
+        statuses: &Statuses,
+    ) -> Answer<State> {
+        let mut words = [0; 8];
+        let number = calls::mark_deleted(pool, self, key, deleter, current, statuses, &mut words);
+        answer(number, &words, state)
+    }
+
+    /// The version that [`State::find`] finds gets the stamp of `current`, or of
+    /// 0. Refusals: BadPool, BadStatuses, BadTree, Absent, TooDeep, NoPages.
+    pub fn delete(
+        self,
+        pool: &mut [u8],
+        key: i32,
+        current: Option<u64>,
+        statuses: &Statuses,
+    ) -> Answer<State> {
+        let mut words = [0; 8];
+        let number = calls::delete(pool, self, key, current, statuses, &mut words);
+        answer(number, &words, state)
+    }
+
+    /// The version that the snapshot sees gets the stamp of its current
+    /// transaction, unless another transaction changed the key after the
+    /// snapshot. Refusals: BadPool, BadSnapshot, BadStatuses, BadTree, Absent,
+    /// Conflict, TooDeep, NoPages.
+    pub fn claim(
+        self,
+        pool: &mut [u8],
+        key: i32,
+        snapshot: &Snapshot,
+        statuses: &Statuses,
+    ) -> Answer<State> {
+        let mut words = [0; 8];
+        let number = calls::claim(pool, self, key, snapshot, statuses, &mut words);
+        answer(number, &words, state)
+    }
+
+    /// Drops every version of a key; gives how many. The state stays. Refusals:
+    /// BadPool, BadTree.
+    pub fn remove_all_versions(self, pool: &mut [u8], key: i32) -> Answer<usize> {
+        let mut words = [0; 8];
+        let number = calls::remove_all_versions(pool, self, key, &mut words);
+        answer(number, &words, count)
+    }
+
+    /// Drops the versions whose creator is aborted or whose deleter is below
+    /// `bound` and listed as committed, and clears the stamps of aborted
+    /// deleters; gives how many it dropped. The state stays. Refusals: BadPool,
+    /// BadStatuses, BadTree.
+    pub fn vacuum_deleted_versions(
+        self,
+        pool: &mut [u8],
+        bound: u64,
+        statuses: &Statuses,
+    ) -> Answer<usize> {
+        let mut words = [0; 8];
+        let number = calls::vacuum_deleted_versions(pool, self, bound, statuses, &mut words);
+        answer(number, &words, count)
     }
 }

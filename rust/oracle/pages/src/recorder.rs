@@ -129,23 +129,6 @@ impl Recorder {
         header(&self.oracle.page(root)).leaf.then_some(root)
     }
 
-    /// Notes what the call made of the pages, and goes on from there.
-    fn went(&mut self, leaf: u32, stamping: bool, touched: &[u32], in_use: u32) {
-        let (oracle, seen) = (&self.oracle, &self.seen);
-        let now = |n: u32| oracle.page(n);
-        // Of a root that is pinned, the left side is in the page after the right side and the top.
-        let left = if now(leaf)[0] == 1 { leaf } else { in_use + 2 };
-        self.tally.leaf(
-            stamping,
-            page(seen, leaf),
-            &now(left),
-            oracle.in_use() > in_use,
-        );
-        self.tally
-            .above(seen, &now, touched, in_use, oracle.in_use());
-        self.look();
-    }
-
     pub fn insert(&mut self, head: Head, data: Data) {
         let version = Version {
             key: head.key,
@@ -162,7 +145,9 @@ impl Recorder {
         self.list
             .push_str(&format!("i {leaf:x} {head} {len:x} {seed:x}\n"));
         self.data.push(data);
-        self.went(leaf, false, &touched, in_use);
+        self.tally
+            .note_either(!touched.is_empty(), Kind::Inserted, Kind::Undividable);
+        self.look();
     }
 
     pub fn stamp(&mut self, key: i32, xmax: u64, deleter: u64) {
@@ -177,14 +162,18 @@ impl Recorder {
         };
         self.list
             .push_str(&format!("s {leaf:x} {key:x} {xmax:x} {deleter:x}\n"));
-        self.went(leaf, true, &touched, in_use);
+        self.tally
+            .note_either(!touched.is_empty(), Kind::Stamped, Kind::NothingStamped);
+        self.look();
     }
 
     pub fn remove(&mut self, key: i32) {
         let (touched, _) = self.call(&Op::Remove(key));
-        for leaf in &touched {
+        // A line for each leaf: the first call drops all there is, and the others find nothing.
+        for (i, leaf) in touched.iter().enumerate() {
             self.list.push_str(&format!("r {leaf:x} {key:x}\n"));
-            self.tally.note(Kind::Removed);
+            self.tally
+                .note_either(i == 0, Kind::Removed, Kind::NothingRemoved);
         }
         if let (true, Some(leaf)) = (touched.is_empty(), self.only_leaf()) {
             self.list.push_str(&format!("r {leaf:x} {key:x}\n"));
@@ -194,15 +183,13 @@ impl Recorder {
     }
 
     pub fn vacuum(&mut self, bound: u64) {
-        let leaves = self.leaves();
-        let (touched, _) = self.call(&Op::Vacuum(bound));
-        for leaf in leaves {
+        let (leaves, before) = (self.leaves(), self.count);
+        self.call(&Op::Vacuum(bound));
+        let dropped = self.count > before;
+        for (i, leaf) in leaves.into_iter().enumerate() {
             self.list.push_str(&format!("v {leaf:x} {bound:x}\n"));
-            self.tally.note_either(
-                touched.contains(&leaf),
-                Kind::Vacuumed,
-                Kind::NothingVacuumed,
-            );
+            self.tally
+                .note_either(i == 0 && dropped, Kind::Vacuumed, Kind::NothingVacuumed);
         }
         self.look();
     }
