@@ -9,7 +9,6 @@ use Rattle.page.specs.Pool.{goodPool}
 use Rattle.page.specs.declared.pool.State.{State}
 use Rattle.row.specs.declared.Cell.{Cell}
 use Rattle.mvcc.specs.Lists.{lookup}
-use Rattle.mvcc.specs.Rules.{plainXmax, plainActive}
 use Rattle.mvcc.specs.declared.Current.{Current}
 use Rattle.tree.specs.Lookup.{testInTree}
 use Rattle.tree.specs.declared.ChainTest.{ChainTest}
@@ -18,7 +17,7 @@ use Rattle.room.specs.Room.{noFault}
 use Rattle.insert.specs.Ready.{creatorOf}
 use Rattle.stamp.specs.Target.{targetOf}
 use Rattle.stamp.specs.Stamp.{stampedAt}
-use Rattle.stamp.specs.Ready.{notMarking, markAt}
+use Rattle.stamp.specs.Ready.{notMarking, markingAt}
 use Rattle.stamp.specs.declared.Target.{Target}
 use Rattle.stamp.specs.declared.ready.Marking.{Marking}
 use Rattle.reads.specs.Answer.{Outcome, Ended, ended}
@@ -28,7 +27,7 @@ use Rattle.reads.specs.declared.Refusal.{Refusal}
 use Rattle.writes.specs.Answer.{changedTo, hideFault}
 use Rattle.writes.specs.declared.Changed.{Changed}
 use Rattle.writes.proofs.Calls.{hidden-end}
-use Rattle.claims.specs.Mark.{notFound, testOf, markReady, marked, markRun, markCall, markPlainCall, deleteCall}
+use Rattle.claims.specs.Mark.{notFound, markReady, marked, markRun, markCall}
 use Rattle.claims.specs.Claim.{claimReady, claimRun, claimCall}
 
 module _ (claiming : Bool) (s : List ℕ) (st : State) (key xmax : ℕ) (active : List ℕ) (cur : Current) (ids states : List ℕ) {looked : Looked}
@@ -39,12 +38,12 @@ module _ (claiming : Bool) (s : List ℕ) (st : State) (key xmax : ℕ) (active 
 
   module _ {p : ℕ} {c : Cell} (at : looked ≡ Looked.At p c) {t : Target} (target : t ≡ targetOf p c (page p s)) where
     pub ready-asked : {y : ChainTest} → claiming ≡ true
-        → y ≡ testInTree true (lookup ids states) active xmax cur (st .used) (st .root) (c .version .creator) key s → m ≡ markAt s st y t
+        → y ≡ testInTree true (lookup ids states) active xmax cur (st .used) (st .root) (c .version .creator) key s → m ≡ markingAt s st y t
         → m ≡ markReady claiming s st key xmax active cur ids states
     unfolding markReady
     ready-asked k u e = e ∙ rw (u, target, ← is, at, k)
 
-    pub ready-plain : claiming ≡ false → m ≡ markAt s st (ChainTest.Ok false) t → m ≡ markReady claiming s st key xmax active cur ids states
+    pub ready-plain : claiming ≡ false → m ≡ markingAt s st (ChainTest.Ok false) t → m ≡ markReady claiming s st key xmax active cur ids states
     unfolding markReady
     ready-plain k e = e ∙ rw (target, ← is, at, k)
 

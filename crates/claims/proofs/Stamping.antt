@@ -25,13 +25,13 @@ use Rattle.room.proofs.Telling.{plan-told}
 use Rattle.insert.specs.Ready.{creatorOf}
 use Rattle.stamp.specs.Target.{targetOf, Met}
 use Rattle.stamp.specs.Stamp.{bytesStamped, stampPlan}
-use Rattle.stamp.specs.Ready.{marking, notMarking, badTree, onTest, markAt}
+use Rattle.stamp.specs.Ready.{marking, notMarking, onTest, markingAt}
 use Rattle.stamp.specs.declared.Target.{Target}
 use Rattle.stamp.specs.declared.ready.Marking.{Marking}
 use Rattle.stamp.proofs.Meeting.{best-met}
 use Rattle.reads.specs.Find.{plain, lookedBest, findVisibleRun}
 use Rattle.reads.specs.declared.Looked.{Looked}
-use Rattle.claims.specs.Mark.{onLooked, testOf, Stampable, markReady}
+use Rattle.claims.specs.Mark.{onLooked, conflictTold, Stampable, markReady}
 use Rattle.claims.specs.Claim.{claimReady}
 
 -- ---- what a lookup that finds says
@@ -81,8 +81,8 @@ ok-planned st t s = plan-told st (t .leaf) _ _ s
 
 module _ (s : List ℕ) (st : State) (t : Target) (good : goodPool s st ≡ true) (met : Met (st .used) (t .leaf) (t .cell) s)
     (is : t ≡ targetOf (t .leaf) (t .cell) (page (t .leaf) s)) where
-  at-ok : (test : ChainTest) → markAt s st test t .ok ≡ true → Stampable s st (markAt s st test t)
-  unfolding markAt
+  at-ok : (test : ChainTest) → markingAt s st test t .ok ≡ true → Stampable s st (markingAt s st test t)
+  unfolding markingAt
   at-ok test h = by-ok (stampPlan st t s .ok) (stampPlan st t s .plan) (roomOf (length s / 4096) st (bytesStamped t) (stampPlan st t s .plan)) refl refl (λ q. ok-planned st t s q) test h
     where
       by-room : (plan : Planned) (n : ℕ) → roomOf (length s / 4096) st (bytesStamped t) plan ≡ n → stampPlan st t s ≡ planned plan → (b : Bool) → eqb n 0 ≡ b
@@ -91,17 +91,17 @@ module _ (s : List ℕ) (st : State) (t : Target) (good : goodPool s st ≡ true
       by-room plan n r e false q u = absurd (let z : _≡_ {A = ℕ} 0 1 = cc in omega arith)
 
       by-test : (plan : Planned) (n : ℕ) → roomOf (length s / 4096) st (bytesStamped t) plan ≡ n → stampPlan st t s ≡ planned plan → (y : ChainTest)
-          → onTest (notMarking 7 noFault) (pick (eqb n 0) (marking t plan) (notMarking n noFault)) badTree y .ok ≡ true
-          → Stampable s st (onTest (notMarking 7 noFault) (pick (eqb n 0) (marking t plan) (notMarking n noFault)) badTree y)
+          → onTest (notMarking 7 noFault) (pick (eqb n 0) (marking t plan) (notMarking n noFault)) (notMarking 2) y .ok ≡ true
+          → Stampable s st (onTest (notMarking 7 noFault) (pick (eqb n 0) (marking t plan) (notMarking n noFault)) (notMarking 2) y)
       by-test plan n r e (ChainTest.Ok true) u = absurd (let z : _≡_ {A = ℕ} 0 1 = cc in omega arith)
       by-test plan n r e (ChainTest.Ok false) u = by-room plan n r e (eqb n 0) refl u
       by-test plan n r e (ChainTest.Bad f) u = absurd (let z : _≡_ {A = ℕ} 0 1 = cc in omega arith)
 
       by-ok : (b : Bool) (plan : Planned) (n : ℕ) → stampPlan st t s .ok ≡ b → roomOf (length s / 4096) st (bytesStamped t) plan ≡ n
           → (stampPlan st t s .ok ≡ true → stampPlan st t s ≡ planned plan) → (y : ChainTest)
-          → pick b (onTest (notMarking 7 noFault) (pick (eqb n 0) (marking t plan) (notMarking n noFault)) badTree y) (badTree (stampPlan st t s .fault)) .ok ≡ true
+          → pick b (onTest (notMarking 7 noFault) (pick (eqb n 0) (marking t plan) (notMarking n noFault)) (notMarking 2) y) (notMarking 2 (stampPlan st t s .fault)) .ok ≡ true
           → Stampable s st
-          (pick b (onTest (notMarking 7 noFault) (pick (eqb n 0) (marking t plan) (notMarking n noFault)) badTree y) (badTree (stampPlan st t s .fault)))
+          (pick b (onTest (notMarking 7 noFault) (pick (eqb n 0) (marking t plan) (notMarking n noFault)) (notMarking 2) y) (notMarking 2 (stampPlan st t s .fault)))
       by-ok true plan n q r e y u = by-test plan n r (e q) y u
       by-ok false plan n q r e y u = absurd (let z : _≡_ {A = ℕ} 0 1 = cc in omega arith)
 
@@ -111,15 +111,15 @@ module _ (s : List ℕ) (st : State) (key xmax : ℕ) (active : List ℕ) (cur :
   mark-at claiming h = by-looked (findVisibleRun s st key xmax active cur ids states) refl h
     where
       by-looked : (y : Looked) → findVisibleRun s st key xmax active cur ids states ≡ y
-          → onLooked (λ p c. markAt s st (testOf claiming s st key xmax active cur ids states (c .version .creator)) (targetOf p c (page p s)))
+          → onLooked (λ p c. markingAt s st (conflictTold claiming s st key xmax active cur ids states (c .version .creator)) (targetOf p c (page p s)))
           (λ r. notMarking (r .number) (r .fault)) y .ok
           ≡ true
           → Stampable s st
-          (onLooked (λ p c. markAt s st (testOf claiming s st key xmax active cur ids states (c .version .creator)) (targetOf p c (page p s)))
+          (onLooked (λ p c. markingAt s st (conflictTold claiming s st key xmax active cur ids states (c .version .creator)) (targetOf p c (page p s)))
           (λ r. notMarking (r .number) (r .fault)) y)
       by-looked (Looked.At p c) e u =
           let f = looked-finds s st key xmax active cur ids states {looked = Looked.At p c} (sym e) refl in
-          at-ok s st (targetOf p c (page p s)) (f .good) (f .met) refl (testOf claiming s st key xmax active cur ids states (c .version .creator)) u
+          at-ok s st (targetOf p c (page p s)) (f .good) (f .met) refl (conflictTold claiming s st key xmax active cur ids states (c .version .creator)) u
       by-looked (Looked.Refused r) e u = absurd (let z : _≡_ {A = ℕ} 0 1 = cc in omega arith)
 
   pub mark-ok : (claiming : Bool) {told : Marking} → told ≡ markReady claiming s st key xmax active cur ids states → told .ok ≡ true → Stampable s st told

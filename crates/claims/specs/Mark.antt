@@ -20,7 +20,7 @@ use Rattle.insert.specs.Ready.{creatorOf}
 use Rattle.room.specs.Room.{noFault, planned, roomOf}
 use Rattle.stamp.specs.Target.{targetOf, Met}
 use Rattle.stamp.specs.Stamp.{bytesStamped, stampPlan, stampedAt}
-use Rattle.stamp.specs.Ready.{notMarking, onMarking, markAt}
+use Rattle.stamp.specs.Ready.{notMarking, onMarking, markingAt}
 use Rattle.stamp.specs.declared.ready.Marking.{Marking}
 use Rattle.reads.specs.Answer.{Outcome, Ended}
 use Rattle.reads.specs.Find.{findVisibleRun}
@@ -39,14 +39,14 @@ abbrev pub notFound : Looked → Marking
 notFound r = onLooked (λ p c. notMarking 8 noFault) (λ q. notMarking (q .number) (q .fault)) r
 
 -- what the conflict test says of the found creator: only a claim asks
-abbrev pub testOf : (claiming : Bool) → List ℕ → State → (key xmax : ℕ) → List ℕ → Current → (ids states : List ℕ) → (seen : ℕ) → ChainTest
-testOf claiming s st key xmax active cur ids states seen =
+abbrev pub conflictTold : (claiming : Bool) → List ℕ → State → (key xmax : ℕ) → List ℕ → Current → (ids states : List ℕ) → (seen : ℕ) → ChainTest
+conflictTold claiming s st key xmax active cur ids states seen =
     pick claiming (testInTree claiming (lookup ids states) active xmax cur (st .used) (st .root) seen key s) (ChainTest.Ok false)
 
 -- 1, 3, 4, 2, 8, 7, 11, 10: "A stamp or claim that finds nothing does not climb"
 unfoldable pub markReady : (claiming : Bool) → List ℕ → State → (key xmax : ℕ) → List ℕ → Current → (ids states : List ℕ) → Marking
 markReady claiming s st key xmax active cur ids states =
-    onLooked (λ p c. markAt s st (testOf claiming s st key xmax active cur ids states (c .version .creator)) (targetOf p c (page p s))) (λ r. notMarking (r .number) (r .fault))
+    onLooked (λ p c. markingAt s st (conflictTold claiming s st key xmax active cur ids states (c .version .creator)) (targetOf p c (page p s))) (λ r. notMarking (r .number) (r .fault))
     (findVisibleRun s st key xmax active cur ids states)
 
 -- what the stores of a stamp need

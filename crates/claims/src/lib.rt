@@ -1,5 +1,5 @@
 // The calls that stamp (document 01, sections 4 to 6; btree.rs, mark_deleted_visible): stamp, plain stamp, plain delete, and
-// claim, in which the conflict test and the stamp are one call. No function here asks anything of its caller.
+// claim, in which the conflict test and the stamp are one call. These ask nothing of their caller.
 ghost use mathlib.Core.Path.{_≡_};
 ghost use mathlib.Core.Bool.{true};
 ghost use Rattle.page.specs.Key.{rankOf};
@@ -52,9 +52,9 @@ pub fn mark_ready(
             v.creator,
             key,
         );
-        return ready::mark_at(pool, st, test, t);
+        return ready::marking_at(pool, st, test, t);
     }
-    ready::mark_at(pool, st, ChainTest::Ok(false), t)
+    ready::marking_at(pool, st, ChainTest::Ok(false), t)
 }
 
 // The refusal of a lookup that found nothing.

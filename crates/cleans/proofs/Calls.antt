@@ -12,7 +12,7 @@ use Rattle.tree.specs.declared.Route.{Route}
 use Rattle.tree.specs.declared.Descent.{Descent}
 use Rattle.reads.specs.Answer.{Outcome, ended}
 use Rattle.reads.specs.Find.{plain, badTree}
-use Rattle.cleans.specs.Answer.{hideFault, hideEnd}
+use Rattle.cleans.specs.Answer.{clearedOutcome, clearedEnd}
 use Rattle.cleans.specs.Remove.{countAlong, removedAlong, removeRun, removeCall}
 use Rattle.cleans.specs.Vacuum.{judgedAlong, vacuumedAlong, vacuumRun, vacuumCall}
 use Rattle.cleans.specs.declared.Cleared.{Cleared}
@@ -40,10 +40,10 @@ module _ (s : List ℕ) (st : State) (key : ℕ) {a : Bool} (pool : a ≡ goodPo
       unfolding removeRun
       remove-done e u = rw (sym pool ∙ good, sym way ∙ leaf, sym count ∙ e, u)
 
-pub remove-call : (s : List ℕ) (st : State) (key : ℕ) {rank : ℕ} {r : Cleared} {t : List ℕ} {o : Outcome ℕ} → rank ≡ key → ended r t ≡ removeRun s st rank → o ≡ hideFault r
+pub remove-call : (s : List ℕ) (st : State) (key : ℕ) {rank : ℕ} {r : Cleared} {t : List ℕ} {o : Outcome ℕ} → rank ≡ key → ended r t ≡ removeRun s st rank → o ≡ clearedOutcome r
     → ended o t ≡ removeCall s st key
 unfolding removeCall
-remove-call s st key k run told = rw (told, ← k) (ap hideEnd run)
+remove-call s st key k run told = rw (told, ← k) (ap clearedEnd run)
 
 -- ---- vacuum
 
@@ -73,6 +73,6 @@ module _ (s : List ℕ) (st : State) (bound : ℕ) (ids states : List ℕ) {a : 
         vacuum-done e u = rw (sym pool ∙ good, sym list ∙ list-good, sym way ∙ leaf, sym judged ∙ e, ← u)
 
 pub vacuum-call : (s : List ℕ) (st : State) (bound : ℕ) (ids states : List ℕ) {r : Cleared} {t : List ℕ} {o : Outcome ℕ} → ended r t ≡ vacuumRun s st bound ids states
-    → o ≡ hideFault r → ended o t ≡ vacuumCall s st bound ids states
+    → o ≡ clearedOutcome r → ended o t ≡ vacuumCall s st bound ids states
 unfolding vacuumCall
-vacuum-call s st bound ids states run told = rw told (ap hideEnd run)
+vacuum-call s st bound ids states run told = rw told (ap clearedEnd run)

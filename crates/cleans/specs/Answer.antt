@@ -11,12 +11,12 @@ ofDropped (Dropped.Done n) = done n
 ofDropped (Dropped.Refused n) = refused n
 
 -- with the fault behind a BadTree, and without it
-abbrev pub stays : List ℕ → Refusal → Ended Cleared
-stays s r = ended (Cleared.Refused r) s
+abbrev pub notCleared : List ℕ → Refusal → Ended Cleared
+notCleared s r = ended (Cleared.Refused r) s
 
-abbrev pub hideFault : Cleared → Outcome ℕ
-hideFault (Cleared.Done n) = done n
-hideFault (Cleared.Refused r) = refused (r .number)
+abbrev pub clearedOutcome : Cleared → Outcome ℕ
+clearedOutcome (Cleared.Done n) = done n
+clearedOutcome (Cleared.Refused r) = refused (r .number)
 
-abbrev pub hideEnd : Ended Cleared → Ended (Outcome ℕ)
-hideEnd e = ended (hideFault (e .answer)) (e .pool)
+abbrev pub clearedEnd : Ended Cleared → Ended (Outcome ℕ)
+clearedEnd e = ended (clearedOutcome (e .answer)) (e .pool)

@@ -19,7 +19,7 @@ use Rattle.tree.specs.Descend.{descendOf, onLeaf}
 use Rattle.tree.specs.declared.Route.{Route}
 use Rattle.reads.specs.Answer.{Outcome, Ended, ended}
 use Rattle.reads.specs.Find.{plain, badTree}
-use Rattle.cleans.specs.Answer.{stays, hideEnd}
+use Rattle.cleans.specs.Answer.{notCleared, clearedEnd}
 use Rattle.cleans.specs.declared.Cleared.{Cleared}
 use Rattle.cleans.specs.declared.remove.ChainCount.{ChainCount}
 
@@ -42,11 +42,11 @@ countAlong used key p s = toldCount (along (lookRun key) used used 0 p s)
 
 -- ---- the stores
 
--- a leaf without its cells of the key, and whether the walk goes on after it
 abbrev pub onRun : {A : Type 0} → (Run → ℕ → Bool → A) → A → LeafRun → A
 onRun good bad (LeafRun.Ok run e larger) = good run e larger
 onRun good bad (LeafRun.Bad f) = bad
 
+-- a leaf, whose cells end at e, without its cells of the key
 abbrev pub withoutRun : Run → (e : ℕ) → List ℕ → List ℕ
 withoutRun run e pg = pick (eqb (run .count) 0) pg (without (run .from) (run .to) (run .count) e (cellCount pg) pg)
 
@@ -74,9 +74,9 @@ onCount good bad (ChainCount.Bad f) = bad f
 unfoldable pub removeRun : List ℕ → State → (key : ℕ) → Ended Cleared
 removeRun s st key =
     pick (goodPool s st)
-    (onLeaf (λ p. onCount (λ n. ended (Cleared.Done n) (removedAlong (st .used) (st .used) key p s)) (λ f. stays s (badTree f)) (countAlong (st .used) key p s)) (λ f. stays s (badTree f))
+    (onLeaf (λ p. onCount (λ n. ended (Cleared.Done n) (removedAlong (st .used) (st .used) key p s)) (λ f. notCleared s (badTree f)) (countAlong (st .used) key p s)) (λ f. notCleared s (badTree f))
     (descendOf 3 (Route.Search key) (st .used) (st .root) s))
-    (stays s (plain 1))
+    (notCleared s (plain 1))
 
 unfoldable pub removeCall : List ℕ → State → (key : ℕ) → Ended (Outcome ℕ)
-removeCall s st key = hideEnd (removeRun s st key)
+removeCall s st key = clearedEnd (removeRun s st key)

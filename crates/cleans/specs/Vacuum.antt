@@ -19,7 +19,7 @@ use Rattle.tree.specs.Descend.{descendOf, onLeaf}
 use Rattle.tree.specs.declared.Route.{Route}
 use Rattle.reads.specs.Answer.{Outcome, Ended, ended}
 use Rattle.reads.specs.Find.{plain, badTree}
-use Rattle.cleans.specs.Answer.{stays, hideEnd}
+use Rattle.cleans.specs.Answer.{notCleared, clearedEnd}
 use Rattle.cleans.specs.declared.Cleared.{Cleared}
 use Rattle.cleans.specs.declared.vacuum.ChainJudged.{ChainJudged}
 
@@ -68,11 +68,11 @@ vacuumRun s st bound ids states =
     pick (goodPool s st)
     (pick (goodStatuses ids states)
     (onLeaf
-    (λ p. onChainJudged (dropped (vacuumedAlong (lookup ids states) bound (st .used) (st .used) 0 p s)) (λ f. stays s (badTree f)) (judgedAlong (st .used) p s))
-    (λ f. stays s (badTree f))
+    (λ p. onChainJudged (dropped (vacuumedAlong (lookup ids states) bound (st .used) (st .used) 0 p s)) (λ f. notCleared s (badTree f)) (judgedAlong (st .used) p s))
+    (λ f. notCleared s (badTree f))
     (descendOf 3 Route.First (st .used) (st .root) s))
-    (stays s (plain 4)))
-    (stays s (plain 1))
+    (notCleared s (plain 4)))
+    (notCleared s (plain 1))
 
 unfoldable pub vacuumCall : List ℕ → State → (bound : ℕ) → (ids states : List ℕ) → Ended (Outcome ℕ)
-vacuumCall s st bound ids states = hideEnd (vacuumRun s st bound ids states)
+vacuumCall s st bound ids states = clearedEnd (vacuumRun s st bound ids states)

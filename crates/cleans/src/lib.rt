@@ -7,7 +7,7 @@ ghost use mathlib.Core.Path.{_≡_};
 ghost use Rattle.page.specs.Key.{rankOf};
 ghost use Rattle.reads.specs.Answer.{ended};
 ghost use Rattle.reads.specs.Find.{plain, badTree};
-ghost use Rattle.cleans.specs.Answer.{ofDropped, hideFault};
+ghost use Rattle.cleans.specs.Answer.{ofDropped, clearedOutcome};
 ghost use Rattle.cleans.specs.Remove.{removeRun, removeCall};
 ghost use Rattle.cleans.specs.Vacuum.{vacuumRun, vacuumCall};
 ghost use Rattle.cleans.specs.declared.Cleared.{Cleared};
@@ -53,7 +53,7 @@ fn refused(number: u8) -> Cleared
 }
 
 fn dropped_of(r: Cleared) -> Dropped
-    ensures { λ q. ⌜ ofDropped q ≡ hideFault r ⌝ }
+    ensures { λ q. ⌜ ofDropped q ≡ clearedOutcome r ⌝ }
 {
     match r {
         Cleared::Done(n) => Dropped::Done(n),

@@ -5,7 +5,6 @@ ghost use Prim.Native.Nat.{_+_, _*_, _≤_, _<_};
 ghost use lib.ListN.{length};
 ghost use Rattle.page.specs.Page.{page};
 ghost use Rattle.page.specs.Header.{cellCount};
-ghost use Rattle.leaf.specs.declared.find.LeafRun.{LeafRun};
 ghost use Rattle.cleans.specs.Remove.{countAlong, withoutRun, removedAlong};
 use leaf::find::LeafRun;
 use leaf::find::Run;

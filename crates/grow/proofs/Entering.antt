@@ -20,7 +20,7 @@ use Rattle.page.proofs.PageLaws.{lent-page, back-page, page-setPage-other}
 use Rattle.page.proofs.PoolLaws.{alloc-page}
 use Rattle.inner.specs.Inner.{childrenFrom}
 use Rattle.inner.specs.Route.{childPlace}
-use Rattle.inner.specs.Edit.{withEntry, leftHalf, middleKey, rightHalf, topOf, adopted, AdoptSafe}
+use Rattle.branch.specs.Edit.{withEntry, leftHalf, middleKey, rightHalf, topOf, adopted, AdoptSafe}
 use Rattle.tree.specs.declared.climb.Path.{Path}
 use Rattle.grow.specs.Path.{pageAt, pagesAbove}
 use Rattle.grow.specs.Grow.{Grown, grown, linked, linkedBoth, topOver, placeIn, joinedTo, halved, enterOf, divideOf, keptRoot, settled}

@@ -17,7 +17,7 @@ use Rattle.page.specs.Header.{cellCount}
 use Rattle.page.specs.Pool.{nextPage}
 use Rattle.page.proofs.PageLaws.{length-page}
 use Rattle.inner.specs.Inner.{childAt, childrenFrom, structural}
-use Rattle.inner.specs.Edit.{leftHalf, middleKey}
+use Rattle.branch.specs.Edit.{leftHalf, middleKey}
 use Rattle.tree.specs.Climb.{climbOf, up}
 use Rattle.tree.proofs.Climbing.{Rises, climb-risen, path-is}
 use Rattle.tree.proofs.Ways.{inner-is}

@@ -15,9 +15,9 @@ use Rattle.store.proofs.SeamLaws.{part-right, length-pad, part-pad}
 use Rattle.page.specs.Header.{cellCount, withCount}
 use Rattle.page.specs.Key.{flip, keyBytes}
 use Rattle.inner.specs.Inner.{childAt}
-use Rattle.inner.specs.Edit.{entered, leftHalf, rightHalf}
-use Rattle.inner.proofs.Editing.{entered-before, entered-pair, entered-after}
-use Rattle.inner.proofs.Dividing.{length-left, length-right}
+use Rattle.branch.specs.Edit.{entered, leftHalf, rightHalf}
+use Rattle.branch.proofs.Editing.{entered-before, entered-pair, entered-after}
+use Rattle.branch.proofs.Dividing.{length-left, length-right}
 use Rattle.grow.specs.Plan.{firstMoved}
 
 -- a page whose bytes are x, then zeros, has the children of x

@@ -13,7 +13,7 @@ use Rattle.page.specs.Page.{page}
 use Rattle.page.specs.Header.{nodeType, cellCount, withIsRoot, withParent}
 use Rattle.page.proofs.PageLaws.{length-page, length-setPage, page-setPage, page-setPage-other}
 use Rattle.inner.specs.Inner.{childAt, childrenFrom, childrenOf}
-use Rattle.inner.specs.Edit.{adopted, AdoptSafe}
+use Rattle.branch.specs.Edit.{adopted, AdoptSafe}
 use Rattle.grow.specs.Grow.{linked, linkedBoth, placeIn}
 use Rattle.grow.specs.Safe.{There}
 

@@ -17,7 +17,7 @@ use Rattle.page.specs.declared.pool.State.{State}
 use Rattle.page.specs.declared.pool.Allocated.{Allocated}
 use Rattle.page.proofs.PageLaws.{lent-page, back-page, length-page, page-setPage, setPage-setPage}
 use Rattle.inner.specs.Inner.{keyAt, childAt}
-use Rattle.inner.specs.Edit.{topOf, adopted, AdoptSafe}
+use Rattle.branch.specs.Edit.{topOf, adopted, AdoptSafe}
 use Rattle.grow.specs.Grow.{Grown, grown, linkedBoth, movedTo, relinked, topIn, pinOf, keptRoot}
 use Rattle.grow.specs.Safe.{There, RelinkSafe, PinSafe}
 

@@ -15,7 +15,7 @@ use Rattle.page.specs.Pool.{nextPage, allocated, withFresh}
 use Rattle.page.specs.declared.pool.State.{State}
 use Rattle.page.proofs.PageLaws.{length-page, length-setPage, page-setPage, page-setPage-other}
 use Rattle.inner.specs.Inner.{childAt}
-use Rattle.inner.specs.Edit.{leftHalf, rightHalf, topOf}
+use Rattle.branch.specs.Edit.{leftHalf, rightHalf, topOf}
 use Rattle.grow.specs.Grow.{Grown, topOver, halved, movedTo}
 use Rattle.grow.specs.Safe.{There, Free, HalvedSafe, RelinkSafe, PinSafe}
 use Rattle.grow.specs.Plan.{firstMoved}

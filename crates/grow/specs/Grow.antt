@@ -13,7 +13,7 @@ use Rattle.page.specs.Key.{rankAt}
 use Rattle.page.specs.declared.pool.State.{State}
 use Rattle.inner.specs.Inner.{keyAt, childAt, childrenOf}
 use Rattle.inner.specs.Route.{childPlace}
-use Rattle.inner.specs.Edit.{withEntry, leftHalf, middleKey, rightHalf, topOf, adopted}
+use Rattle.branch.specs.Edit.{withEntry, leftHalf, middleKey, rightHalf, topOf, adopted}
 
 -- the pool and the tree's numbers, which change together
 pub record Grown : Type 0 where

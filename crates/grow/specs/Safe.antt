@@ -10,7 +10,7 @@ use Rattle.page.specs.Page.{page, setPage}
 use Rattle.page.specs.Header.{nodeType, cellCount}
 use Rattle.page.specs.Pool.{nextPage, withFresh}
 use Rattle.inner.specs.Inner.{childAt}
-use Rattle.inner.specs.Edit.{leftHalf, middleKey, rightHalf, AdoptSafe}
+use Rattle.branch.specs.Edit.{leftHalf, middleKey, rightHalf, AdoptSafe}
 use Rattle.grow.specs.Grow.{Grown, grown, linked, placeIn, halved, enterOf, movedTo}
 
 -- page p is there

@@ -7,7 +7,7 @@ ghost use Prim.Native.Nat.{_+_, _*_, _≤_, _<_};
 ghost use Rattle.page.specs.Page.{page, setPage};
 ghost use Rattle.page.specs.Header.{cellCount};
 ghost use Rattle.page.specs.Key.{rankAt};
-ghost use Rattle.inner.specs.Edit.{withEntry};
+ghost use Rattle.branch.specs.Edit.{withEntry};
 ghost use Rattle.grow.specs.Path.{pageAt, pagesAbove};
 ghost use Rattle.grow.specs.Grow.{grown, linkedBoth, topOver, enterOf, divideOf, movedTo, relinked, topIn, pinOf, keptRoot, settled};
 ghost use Rattle.grow.specs.Safe.{There, Free, EnterSafe, DivideSafe, RelinkSafe, PinSafe, AboveSafe};
@@ -19,8 +19,8 @@ fn link_both(pool: &mut [u8], old: u32, new: u32, q: u32)
     requires { ⌜ There old (now pool) × There new (now pool) ⌝ }
     ensures { λ _. ⌜ now (pool .exit) ≡ linkedBoth old new q (now (pool .entry)) ⌝ }
 {
-    inner::edit::adopt_one(pool, old, q);
-    inner::edit::adopt_one(pool, new, q);
+    branch::adopt_one(pool, old, q);
+    branch::adopt_one(pool, new, q);
 }
 
 fn grow_top(pool: &mut [u8], st: State, old: u32, sep: u32, new: u32) -> State
@@ -32,7 +32,7 @@ fn grow_top(pool: &mut [u8], st: State, old: u32, sep: u32, new: u32) -> State
     let after = a.state;
     let b = t as usize * PAGE_SIZE;
     let e = b + PAGE_SIZE;
-    inner::edit::write_top(&mut pool[b..e], old, sep, new);
+    branch::write_top(&mut pool[b..e], old, sep, new);
     link_both(pool, old, new, t);
     State {
         root: t,
@@ -47,7 +47,7 @@ fn join(pool: &mut [u8], p: u32, i: usize, n: usize, old: u32, sep: u32, new: u3
 {
     let b = p as usize * PAGE_SIZE;
     let e = b + PAGE_SIZE;
-    inner::edit::enter(&mut pool[b..e], i, n, sep, new);
+    branch::enter(&mut pool[b..e], i, n, sep, new);
     link_both(pool, old, new, p);
 }
 
@@ -68,7 +68,7 @@ fn enter(pool: &mut [u8], st: State, path: Path, level: usize, sep: u32, new: u3
         join(pool, p, i, n, old, sep, new);
         return st;
     }
-    inner::edit::adopt_one(pool, new, p);
+    branch::adopt_one(pool, new, p);
     divide(pool, st, path, level + 1, i, sep, new)
 }
 
@@ -81,8 +81,8 @@ fn divide(pool: &mut [u8], st: State, path: Path, at: usize, i: usize, sep: u32,
     let a = page::pool::allocate(pool, st);
     let q = a.page;
     let after = a.state;
-    let middle = inner::edit::divide(pool, p, q, i, sep, new);
-    inner::edit::adopt(pool, 256, 0, q, q);
+    let middle = branch::divide(pool, p, q, i, sep, new);
+    branch::adopt(pool, 256, 0, q, q);
     enter(pool, after, path, at, middle, q)
 }
 
@@ -106,7 +106,7 @@ fn relink(pool: &mut [u8], z: u32)
     let pg = page::pool::page_of(pool, z);
     let n = page::get_cell_count(pg) as usize;
     if page::get_node_type(pg) == 0 {
-        inner::edit::adopt(pool, n + 1, 0, z, z);
+        branch::adopt(pool, n + 1, 0, z, z);
     }
 }
 
@@ -120,7 +120,7 @@ fn write_root(pool: &mut [u8], fixed: u32, left: u32, sep: u32, right: u32)
     store::run::zero_fill(pg, 12, PAGE_SIZE);
     page::set_node_type(pg, 0);
     page::set_parent(pg, 0);
-    inner::edit::write_top(pg, left, sep, right);
+    branch::write_top(pg, left, sep, right);
 }
 
 // The root's number stays: its old image goes to one more page, and what the new top holds goes to it.

@@ -1,5 +1,3 @@
 -- What a reader of the contracts of `inner` has to believe.
 pub mod Inner
 pub mod Route
-pub mod Edit
-pub mod Facts

@@ -1,7 +1,5 @@
 // An internal page (document 01, sections 2, 3 and 5; btree.rs): its keys and children, its judgement, and the child
-// that a key leads to. Module edit enters, divides and makes internal pages.
-pub mod edit;
-
+// that a key leads to. Crate branch enters, divides and makes internal pages.
 ghost use mathlib.Core.Path.{_≡_};
 ghost use mathlib.Core.Bool.{true};
 ghost use Prim.Native.Nat.{_≤_, _<_};

@@ -19,7 +19,7 @@ use Rattle.room.specs.declared.Planned.{Planned}
 use Rattle.room.proofs.Telling.{plan-told}
 use Rattle.insert.specs.Spot.{spotOf}
 use Rattle.insert.specs.Insert.{bytesWith, insertPlan}
-use Rattle.insert.specs.Ready.{ready, notReady, badTree, onSpot, readyAt, versionAt, creatorOf, isSeen, onChain, newAt}
+use Rattle.insert.specs.Ready.{ready, notReady, onSpot, readyAt, versionAt, creatorOf, isSeen, onChain, newAt}
 use Rattle.insert.specs.declared.Spot.{Spot}
 use Rattle.insert.specs.declared.Spotted.{Spotted}
 use Rattle.insert.specs.declared.ready.Ready.{Ready}
@@ -52,8 +52,8 @@ module _ (s : List ℕ) (st : State) (key creator m : ℕ) where
 
       by-ok : (b : Bool) (plan : Planned) (n : ℕ) → insertPlan st x m s .ok ≡ b → roomOf (length s / 4096) st (bytesWith x m) plan ≡ n
           → (insertPlan st x m s .ok ≡ true → insertPlan st x m s ≡ planned plan)
-          → pick b (pick seen (notReady 6 noFault) (pick (eqb n 0) (ready x plan) (notReady n noFault))) (badTree (insertPlan st x m s .fault)) .ok ≡ true
-          → Storable s st key creator m (pick b (pick seen (notReady 6 noFault) (pick (eqb n 0) (ready x plan) (notReady n noFault))) (badTree (insertPlan st x m s .fault)))
+          → pick b (pick seen (notReady 6 noFault) (pick (eqb n 0) (ready x plan) (notReady n noFault))) (notReady 2 (insertPlan st x m s .fault)) .ok ≡ true
+          → Storable s st key creator m (pick b (pick seen (notReady 6 noFault) (pick (eqb n 0) (ready x plan) (notReady n noFault))) (notReady 2 (insertPlan st x m s .fault)))
       by-ok true plan n q r e u = by-seen plan n r (e q) seen u
       by-ok false plan n q r e u = absurd (let z : _≡_ {A = ℕ} 0 1 = cc in omega arith)
 
@@ -61,8 +61,8 @@ module _ (s : List ℕ) (st : State) (key creator m : ℕ) where
   unfolding versionAt
   version-ok h = by-spot (spotOf (st .used) (st .root) key creator s) refl h
     where
-      by-spot : (z : Spotted) → spotOf (st .used) (st .root) key creator s ≡ z → onSpot (λ x. readyAt s st false x m) badTree z .ok ≡ true
-          → Storable s st key creator m (onSpot (λ x. readyAt s st false x m) badTree z)
+      by-spot : (z : Spotted) → spotOf (st .used) (st .root) key creator s ≡ z → onSpot (λ x. readyAt s st false x m) (notReady 2) z .ok ≡ true
+          → Storable s st key creator m (onSpot (λ x. readyAt s st false x m) (notReady 2) z)
       by-spot (Spotted.Ok x) e u = at-ok false x e u
       by-spot (Spotted.Bad f) e u = absurd (let z : _≡_ {A = ℕ} 0 1 = cc in omega arith)
 
@@ -72,13 +72,13 @@ module _ (s : List ℕ) (st : State) (key : ℕ) (cur : Current) (ids states : L
   new-ok h = by-spot (bestInTree (lookup ids states) plainActive plainXmax cur (st .used) (st .root) key s) (spotOf (st .used) (st .root) key (creatorOf cur) s) refl h
     where
       by-chain : (x : Spot) → spotOf (st .used) (st .root) key (creatorOf cur) s ≡ Spotted.Ok x → (y : ChainBest)
-          → onChain (λ b. readyAt s st (isSeen b) x m) badTree y .ok ≡ true
-          → Storable s st key (creatorOf cur) m (onChain (λ b. readyAt s st (isSeen b) x m) badTree y)
+          → onChain (λ b. readyAt s st (isSeen b) x m) (notReady 2) y .ok ≡ true
+          → Storable s st key (creatorOf cur) m (onChain (λ b. readyAt s st (isSeen b) x m) (notReady 2) y)
       by-chain x e (ChainBest.Ok b) u = at-ok s st key (creatorOf cur) m (isSeen b) x e u
       by-chain x e (ChainBest.Bad f) u = absurd (let z : _≡_ {A = ℕ} 0 1 = cc in omega arith)
 
       by-spot : (y : ChainBest) (z : Spotted) → spotOf (st .used) (st .root) key (creatorOf cur) s ≡ z
-          → onSpot (λ x. onChain (λ b. readyAt s st (isSeen b) x m) badTree y) badTree z .ok ≡ true
-          → Storable s st key (creatorOf cur) m (onSpot (λ x. onChain (λ b. readyAt s st (isSeen b) x m) badTree y) badTree z)
+          → onSpot (λ x. onChain (λ b. readyAt s st (isSeen b) x m) (notReady 2) y) (notReady 2) z .ok ≡ true
+          → Storable s st key (creatorOf cur) m (onSpot (λ x. onChain (λ b. readyAt s st (isSeen b) x m) (notReady 2) y) (notReady 2) z)
       by-spot y (Spotted.Ok x) e u = by-chain x e y u
       by-spot y (Spotted.Bad f) e u = absurd (let z : _≡_ {A = ℕ} 0 1 = cc in omega arith)

@@ -22,7 +22,7 @@ use Rattle.leaf.proofs.CutFacts.{cut-is-best}
 use Rattle.leaf.proofs.Rowing.{endOf}
 use Rattle.leaf.proofs.Chain.{Chain, chain-cells, chain-back, chain-right, end-append, judged-leaf}
 use Rattle.tree.proofs.Ways.{and-both}
-use Rattle.insert.specs.Insert.{bytesWith, cutWith, CutStands}
+use Rattle.insert.specs.Insert.{bytesWith, cutWith, InsertCutStands}
 use Rattle.insert.specs.declared.Spot.{Spot}
 use Rattle.insert.proofs.Spotting.{SpotIs}
 
@@ -127,7 +127,7 @@ sides used key creator s x is =
     }
 
 pub cut-stands : (used key creator : ℕ) (s : List ℕ) (x : Spot) (m : ℕ) → SpotIs used key creator s x → 19 ≤ m → m ≤ 4084 → 4084 < bytesWith x m
-    → cutFits (bytesWith x m) (cutWith x m (page (x .leaf) s)) ≡ true → CutStands x m (cellCount (page (x .leaf) s)) (cutWith x m (page (x .leaf) s))
+    → cutFits (bytesWith x m) (cutWith x m (page (x .leaf) s)) ≡ true → InsertCutStands x m (cellCount (page (x .leaf) s)) (cutWith x m (page (x .leaf) s))
 unfolding cutLeaf
 cut-stands used key creator s x m is lo hi over fits =
     let pg = page (x .leaf) s in

@@ -14,14 +14,14 @@ use Rattle.mvcc.specs.declared.Current.{Current}
 use Rattle.leaf.specs.declared.find.Best.{Best}
 use Rattle.tree.specs.Lookup.{bestInTree}
 use Rattle.tree.specs.declared.ChainBest.{ChainBest}
-use Rattle.room.specs.Room.{noFault, fitting, planned, leafPlan, roomOf}
+use Rattle.room.specs.Room.{noFault, fitting, planned, roomOf}
 use Rattle.room.specs.declared.Planned.{Planned}
 use Rattle.room.specs.declared.LeafPlan.{LeafPlan}
-use Rattle.room.proofs.Keeping.{PlannedIs, planned-is}
+use Rattle.room.proofs.Keeping.{planned-is}
 use Rattle.room.proofs.Telling.{plan-told}
 use Rattle.insert.specs.Spot.{spotOf}
 use Rattle.insert.specs.Insert.{bytesWith, insertPlan}
-use Rattle.insert.specs.Ready.{ready, notReady, badTree, byRoom, readyAt, versionAt, creatorOf, isSeen, onChain, newAt}
+use Rattle.insert.specs.Ready.{ready, notReady, readyByRoom, readyAt, versionAt, creatorOf, isSeen, onChain, newAt}
 use Rattle.insert.specs.declared.Spot.{Spot}
 use Rattle.insert.specs.declared.Spotted.{Spotted}
 use Rattle.insert.specs.declared.ready.Ready.{Ready}
@@ -33,10 +33,10 @@ pub none-ready : (n : ℕ) (f : Fault) {x : Planned} → x ≡ fitting (record {
 none-ready n f e = rw e
 
 module _ (x : Spot) (plan : Planned) (n : ℕ) where
-  pub room-ready : n ≡ 0 → ready x plan ≡ byRoom x plan n
+  pub room-ready : n ≡ 0 → ready x plan ≡ readyByRoom x plan n
   room-ready h = rw (eq-eqb n 0 h)
 
-  pub room-refused : {r : Ready} → (n ≡ 0 → ⊥) → r ≡ notReady n noFault → r ≡ byRoom x plan n
+  pub room-refused : {r : Ready} → (n ≡ 0 → ⊥) → r ≡ notReady n noFault → r ≡ readyByRoom x plan n
   room-refused h e = e ∙ rw (ne-eqb n 0 h)
 
 -- ---- a spot and its plan
@@ -59,7 +59,7 @@ module _ (s : List ℕ) (st : State) (x : Spot) (m : ℕ) {told : LeafPlan} (pla
   at-seen seen h u e = e ∙ rw (← plans, not-false (told .ok) h, u)
 
   pub at-room : (seen : Bool) {r : Ready} {n : ℕ} → not (told .ok) ≡ false → seen ≡ false → n ≡ roomOf (length s / 4096) st (bytesWith x m) (told .plan)
-      → r ≡ byRoom x (told .plan) n → r ≡ readyAt s st seen x m
+      → r ≡ readyByRoom x (told .plan) n → r ≡ readyAt s st seen x m
   unfolding readyAt
   at-room seen h u q e = e ∙ rw (← plans, not-false (told .ok) h, u, ← q)
 
@@ -81,17 +81,17 @@ module _ (s : List ℕ) (st : State) (key : ℕ) (cur : Current) (ids states : L
   new-lost h e = e ∙ rw (← by, ← is, h)
 
   pub new-found : {x : Spot} → z ≡ Spotted.Ok x
-      → r ≡ onChain (λ b. readyAt s st (isSeen b) x m) badTree (bestInTree (lookup ids states) plainActive plainXmax cur (st .used) (st .root) key s)
+      → r ≡ onChain (λ b. readyAt s st (isSeen b) x m) (notReady 2) (bestInTree (lookup ids states) plainActive plainXmax cur (st .used) (st .root) key s)
       → r ≡ newAt s st key cur ids states m
   unfolding newAt
   new-found h e = e ∙ rw (← by, ← is, h)
 
 module _ (s : List ℕ) (st : State) (x : Spot) (m : ℕ) (y : ChainBest) {z : ChainBest} (is : z ≡ y) {r : Ready} where
-  pub chain-lost : {f : Fault} → z ≡ ChainBest.Bad f → r ≡ notReady 2 f → r ≡ onChain (λ b. readyAt s st (isSeen b) x m) badTree y
+  pub chain-lost : {f : Fault} → z ≡ ChainBest.Bad f → r ≡ notReady 2 f → r ≡ onChain (λ b. readyAt s st (isSeen b) x m) (notReady 2) y
   chain-lost h e = e ∙ rw (← is, h)
 
   pub chain-found : {b : Best} {seen : Bool} → z ≡ ChainBest.Ok b → seen ≡ isSeen b → r ≡ readyAt s st seen x m
-      → r ≡ onChain (λ b. readyAt s st (isSeen b) x m) badTree y
+      → r ≡ onChain (λ b. readyAt s st (isSeen b) x m) (notReady 2) y
   chain-found h u e = e ∙ rw (u, ← is, h)
 
 -- the plain snapshot's list

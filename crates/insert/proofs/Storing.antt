@@ -36,7 +36,7 @@ use Rattle.room.specs.Up.{dividedUp}
 use Rattle.room.specs.declared.Planned.{Planned}
 use Rattle.room.proofs.Keeping.{PlannedIs, planned-is, RoomLeft, room-left, room-is, up-asks, up-done}
 use Rattle.insert.specs.Spot.{spotOf}
-use Rattle.insert.specs.Insert.{bytesWith, cutWith, insertPlan, CutStands, splicedAt, insertedAt}
+use Rattle.insert.specs.Insert.{bytesWith, cutWith, insertPlan, InsertCutStands, splicedAt, insertedAt}
 use Rattle.insert.specs.declared.Spot.{Spot}
 use Rattle.insert.specs.declared.Spotted.{Spotted}
 use Rattle.insert.proofs.Spotting.{SpotIs, spot-is}
@@ -98,7 +98,7 @@ module _ (s : List ℕ) (st : State) (x : Spot) (plan : Planned) (key creator : 
     pub free-left : RoomLeft s st plan
     free-left = room-left s st (bytesWith x m) plan good room over
 
-    pub cut-there : {n : ℕ} → n ≡ cellCount pg → CutStands x m n (plan .cut)
+    pub cut-there : {n : ℕ} → n ≡ cellCount pg → InsertCutStands x m n (plan .cut)
     cut-there e =
         let c = cell-size stamp pointer (length body) short in
         let f = room-is (length s / 4096) st (bytesWith x m) plan room over .cuts in

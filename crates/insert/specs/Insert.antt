@@ -31,7 +31,7 @@ unfoldable pub insertPlan : State → Spot → (m : ℕ) → List ℕ → LeafPl
 insertPlan st x m s = leafPlan st (x .leaf) (ltb 4084 (bytesWith x m)) (cutWith x m (page (x .leaf) s)) s
 
 -- a cut of n cells and the new one of m bytes: it goes between two of them, and both sides fit a page
-pub record CutStands (x : Spot) (m n : ℕ) (cut : Cut) : Type 0 where
+pub record InsertCutStands (x : Spot) (m n : ℕ) (cut : Cut) : Type 0 where
   pub low : 12 ≤ x .place .at
   pub inside : x .place .at ≤ x .end
   pub within : x .end ≤ 4096

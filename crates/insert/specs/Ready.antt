@@ -36,10 +36,6 @@ notReady n f =
       plan = fitting (record { pages = zeros 4; len = 0 });
     }
 
--- 2 is BadTree
-abbrev pub badTree : Fault → Ready
-badTree f = notReady 2 f
-
 abbrev pub onReady : {A : Type 0} → (Spot → Planned → A) → (ℕ → Fault → A) → Ready → A
 onReady good ill x = pick (x .ok) (good (x .spot) (x .plan)) (ill (x .number) (x .fault))
 
@@ -48,17 +44,17 @@ onSpot good ill (Spotted.Ok x) = good x
 onSpot good ill (Spotted.Bad f) = ill f
 
 -- 9, 11, 10, and 0 for none
-abbrev pub byRoom : Spot → Planned → ℕ → Ready
-byRoom x plan n = pick (eqb n 0) (ready x plan) (notReady n noFault)
+abbrev pub readyByRoom : Spot → Planned → ℕ → Ready
+readyByRoom x plan n = pick (eqb n 0) (ready x plan) (notReady n noFault)
 
 -- 2, 6, 9, 11, 10: a cell of m bytes at the spot, where a version is seen already or not
 unfoldable pub readyAt : List ℕ → State → (seen : Bool) → Spot → (m : ℕ) → Ready
 readyAt s st seen x m =
-    onLeafPlan (λ plan. pick seen (notReady 6 noFault) (byRoom x plan (roomOf (length s / 4096) st (bytesWith x m) plan))) badTree (insertPlan st x m s)
+    onLeafPlan (λ plan. pick seen (notReady 6 noFault) (readyByRoom x plan (roomOf (length s / 4096) st (bytesWith x m) plan))) (notReady 2) (insertPlan st x m s)
 
 -- a version that is not asked whether its key is free
 unfoldable pub versionAt : List ℕ → State → (key creator m : ℕ) → Ready
-versionAt s st key creator m = onSpot (λ x. readyAt s st false x m) badTree (spotOf (st .used) (st .root) key creator s)
+versionAt s st key creator m = onSpot (λ x. readyAt s st false x m) (notReady 2) (spotOf (st .used) (st .root) key creator s)
 
 -- "The new creator .. is that transaction, or 0 if there is none"
 abbrev pub creatorOf : Current → ℕ
@@ -79,6 +75,6 @@ unfoldable pub newAt : List ℕ → State → (key : ℕ) → Current → (ids s
 newAt s st key cur ids states m =
     onSpot
     (λ x.
-    onChain (λ b. readyAt s st (isSeen b) x m) badTree (bestInTree (lookup ids states) plainActive plainXmax cur (st .used) (st .root) key s))
-    badTree
+    onChain (λ b. readyAt s st (isSeen b) x m) (notReady 2) (bestInTree (lookup ids states) plainActive plainXmax cur (st .used) (st .root) key s))
+    (notReady 2)
     (spotOf (st .used) (st .root) key (creatorOf cur) s)

@@ -16,7 +16,7 @@ ghost use Rattle.grow.specs.Grow.{grown};
 ghost use Rattle.insert.specs.Spot.{spotOf};
 ghost use Rattle.room.specs.Room.{planned, roomOf};
 ghost use Rattle.room.specs.Up.{dividedUp};
-ghost use Rattle.insert.specs.Insert.{bytesWith, cutWith, insertPlan, splicedAt, CutStands, insertedAt};
+ghost use Rattle.insert.specs.Insert.{bytesWith, cutWith, insertPlan, splicedAt, InsertCutStands, insertedAt};
 ghost use Rattle.insert.specs.declared.Spotted.{Spotted};
 use leaf::place::Cut;
 use leaf::place::LeafPlace;
@@ -99,7 +99,7 @@ fn divide_at(
     body: &[u8],
 )
     requires { ⌜ (x .leaf < q) × (q * 4096 + 4096 ≤ length (now pool)) × (page q (now pool) ≡ zeros 4096) × (length (now body) ≤ 4051) ⌝ }
-    requires { ⌜ CutStands x (cellSize stamp pointer (length (now body))) n cut ⌝ }
+    requires { ⌜ InsertCutStands x (cellSize stamp pointer (length (now body))) n cut ⌝ }
     ensures { λ _. ⌜ now (pool .exit) ≡ divided (x .leaf) q (n + 1) cut (splicedAt x (cellBytes key creator stamp pointer (now (body .entry))) (page (x .leaf) (now (pool .entry)))) (now (pool .entry)) ⌝ }
 {
     let p = x.leaf;

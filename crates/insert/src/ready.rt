@@ -8,7 +8,7 @@ ghost use Rattle.mvcc.specs.Rules.{plainXmax, plainActive};
 ghost use Rattle.tree.specs.Lookup.{bestInTree};
 ghost use Rattle.insert.specs.Spot.{spotOf};
 ghost use Rattle.room.specs.Room.{noFault};
-ghost use Rattle.insert.specs.Ready.{notReady, badTree, byRoom, readyAt, versionAt, creatorOf, isSeen, onChain, newAt};
+ghost use Rattle.insert.specs.Ready.{notReady, readyByRoom, readyAt, versionAt, creatorOf, isSeen, onChain, newAt};
 ghost use Rattle.insert.specs.declared.Spotted.{Spotted};
 use crate::Spot;
 use crate::Spotted;
@@ -65,7 +65,7 @@ pub fn refused(number: u8) -> Ready
 }
 
 fn by_room(x: Spot, plan: Planned, n: u8) -> Ready
-    ensures { λ r. ⌜ r ≡ byRoom x plan n ⌝ }
+    ensures { λ r. ⌜ r ≡ readyByRoom x plan n ⌝ }
 {
     if n == 0 {
         return Ready {
@@ -141,7 +141,7 @@ fn new_at_spot(
     m: usize,
 ) -> Ready
     requires { ⌜ (goodPool (now pool) st ≡ true) × StatusesJudged (now ids) (now states) × (m ≤ 4084) × (spotOf (st .used) (st .root) key (creatorOf cur) (now pool) ≡ Spotted.Ok x) ⌝ }
-    ensures { λ r. ⌜ r ≡ onChain (λ b. readyAt (now (pool .entry)) st (isSeen b) x m) badTree (bestInTree (lookup (now (ids .entry)) (now (states .entry))) plainActive plainXmax cur (st .used) (st .root) key (now (pool .entry))) ⌝ }
+    ensures { λ r. ⌜ r ≡ onChain (λ b. readyAt (now (pool .entry)) st (isSeen b) x m) (notReady 2) (bestInTree (lookup (now (ids .entry)) (now (states .entry))) plainActive plainXmax cur (st .used) (st .root) key (now (pool .entry))) ⌝ }
 {
     match tree::lookup::best_in_tree(
         pool,

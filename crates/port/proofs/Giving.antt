@@ -29,7 +29,7 @@ use Rattle.port.specs.Words.{currentOf, stampWords, pointerWords, versio
 
 -- ---- stores of words
 
-set-put : (i v : ℕ) (s : List ℕ) → i < length s → set s i v ≡ put i (v ∷ []) s
+pub set-put : (i v : ℕ) (s : List ℕ) → i < length s → set s i v ≡ put i (v ∷ []) s
 set-put i v s h = set-split s i v h ∙ rw (put-def, add-one)
 
 -- a word right after those stored
@@ -38,7 +38,7 @@ set-after a i v x s e h =
     let l : length (put a x s) ≡ length s = length-put a x s (omega arith) in
     set-put i v (put a x s) (omega arith) ∙ put-after-at a i x (v ∷ []) s (omega arith) e
 
-two-words : (i j v w : ℕ) (s : List ℕ) → j ≡ i + 1 → j < length s → set (set s i v) j w ≡ put i (v ∷ w ∷ []) s
+pub two-words : (i j v w : ℕ) (s : List ℕ) → j ≡ i + 1 → j < length s → set (set s i v) j w ≡ put i (v ∷ w ∷ []) s
 two-words i j v w s e h = rw (set-put i v s (omega arith)) (set-after i j w (v ∷ []) s e h)
 
 three-words : (i j k u v w : ℕ) (s : List ℕ) → j ≡ i + 1 → k ≡ i + 2 → k < length s → set (set (set s i u) j v) k w ≡ put i (u ∷ v ∷ w ∷ []) s

@@ -1,2 +1,3 @@
 -- Laws of the calls for C.
+pub mod Changing
 pub mod Giving

@@ -11,7 +11,7 @@ use Rattle.row.specs.declared.Pointer.{Pointer}
 use Rattle.row.specs.declared.Version.{Version}
 use Rattle.mvcc.specs.declared.Current.{Current}
 use Rattle.listing.specs.Listed.{Written}
-use Rattle.reads.specs.Answer.{Outcome, Value, value, nothing}
+use Rattle.reads.specs.Answer.{Outcome, Value, value, nothing, Ended}
 
 -- a state goes in as two numbers, a current transaction as a flag and a number
 abbrev pub stateOf : (root used : ℕ) → State
@@ -19,6 +19,13 @@ stateOf root used = record { root = root; used = used }
 
 abbrev pub currentOf : Bool → ℕ → Current
 currentOf has tx = pick has (Current.Tx tx) Current.Nobody
+
+-- and so do a stamp and a pointer
+abbrev pub stampOf : Bool → ℕ → Stamp
+stampOf has tx = pick has (Stamp.By tx) Stamp.Absent
+
+abbrev pub pointerOf : Bool → (page slot : ℕ) → Pointer
+pointerOf has p t = pick has (Pointer.At p t) Pointer.Absent
 
 -- a stamp and a pointer begin with 1, or are all 0
 abbrev pub stampWords : Stamp → List ℕ
@@ -69,3 +76,15 @@ calledList n ws out = record { number = n; words = ws; output = out }
 
 abbrev pub givenList : Written (Outcome ℕ) → (old : List ℕ) → CalledList
 givenList w old = calledList (w .answer .number) (wordsOf countWords old (w .answer .gives)) (w .output)
+
+-- what comes back of a writing call: also the pool after it
+pub record CalledPool : Type 0 where
+  pub number : ℕ
+  pub words : List ℕ
+  pub pool : List ℕ
+
+abbrev pub calledPool : ℕ → List ℕ → List ℕ → CalledPool
+calledPool n ws s = record { number = n; words = ws; pool = s }
+
+abbrev pub givenPool : {A : Type 0} → (A → List ℕ) → Ended (Outcome A) → (old : List ℕ) → CalledPool
+givenPool w e old = calledPool (e .answer .number) (wordsOf w old (e .answer .gives)) (e .pool)

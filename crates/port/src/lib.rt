@@ -1,6 +1,8 @@
 // What the booking server calls in-process (document 01, sections 6 and 9): numbers and slices in, the answer's number
-// back, what Done gives as words at the start of a lent array, a listing in a lent output. Each call is the one of `reads`
-// that it names.
+// back, what Done gives as words at the start of a lent array, a listing in a lent output. Each call here is the one of
+// `reads` that it names; module change has the writing calls.
+pub mod change;
+
 ghost use mathlib.Core.Path.{_≡_};
 ghost use lib.ListN.{length};
 ghost use Rattle.store.specs.Part.{put};

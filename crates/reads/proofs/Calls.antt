@@ -16,7 +16,7 @@ use Rattle.mvcc.specs.declared.Current.{Current}
 use Rattle.leaf.specs.declared.find.Best.{Best}
 use Rattle.tree.specs.Create.{rooted, createdPool}
 use Rattle.tree.specs.Lookup.{bestInTree, testInTree, inPool}
-use Rattle.tree.specs.Check.{wellFormed}
+use Rattle.checks.specs.Check.{wellFormed}
 use Rattle.tree.proofs.Looking.{found-in, start-small}
 use Rattle.tree.specs.declared.ChainBest.{ChainBest}
 use Rattle.tree.specs.declared.ChainTest.{ChainTest}

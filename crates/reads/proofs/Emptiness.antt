@@ -28,14 +28,14 @@ use Rattle.leaf.specs.declared.find.Best.{Best}
 use Rattle.tree.specs.Create.{rooted, createdPool}
 use Rattle.tree.specs.Descend.{descendOf}
 use Rattle.tree.specs.Chain.{Seen, go, ok, along, lookBest, bestAlong, lookTest, testAlong}
-use Rattle.tree.specs.Check.{cellsWithin, soundLeaf, wellFormed, checkOf, isFirst}
+use Rattle.checks.specs.Check.{cellsWithin, soundLeaf, wellFormed, checkOf, isFirst}
 use Rattle.tree.specs.Lookup.{bestInTree, testInTree}
 use Rattle.tree.specs.declared.Route.{Route}
 use Rattle.tree.specs.declared.Descent.{Descent}
 use Rattle.tree.specs.declared.ChainBest.{ChainBest}
 use Rattle.tree.specs.declared.ChainTest.{ChainTest}
 use Rattle.tree.proofs.Ways.{and-both, way-leaf, along-end}
-use Rattle.tree.proofs.Linking.{check-is-well}
+use Rattle.checks.proofs.Linking.{check-is-well}
 use Rattle.listing.specs.Records.{records}
 use Rattle.listing.specs.Listed.{written, fitted}
 use Rattle.listing.specs.declared.Listing.{Listing}
@@ -80,7 +80,7 @@ module _ {pg : List ℕ} (e : Empty pg) where
   empty-rows : rows pg ≡ []
   empty-rows = ap (map (rowOf pg)) empty-cells
 
-  empty-judged : (p : ℕ) → judgeLeaf p pg ≡ Judged.Ok 12
+  pub empty-judged : (p : ℕ) → judgeLeaf p pg ≡ Judged.Ok 12
   unfolding judgeLeaf judgeCells
   empty-judged p = rw (e .leaf, e .count)
 
@@ -97,7 +97,7 @@ pub record Alone (used root : ℕ) (s : List ℕ) : Type 0 where
   pub empty : Empty (page root s)
 
 module _ {used root : ℕ} {s : List ℕ} (t : Alone used root s) where
-  comes-to : (route : Route) → descendOf 3 route used root s ≡ Descent.Leaf root
+  pub comes-to : (route : Route) → descendOf 3 route used root s ≡ Descent.Leaf root
   comes-to route = sym (way-leaf route used root s (t .in-use) refl refl 3 (t .empty .leaf))
 
   -- a walk ends where it starts, with what it started with

@@ -5,7 +5,7 @@ use Prim.Native.Nat.{ℕ}
 use Rattle.store.specs.Pick.{pick}
 use Rattle.page.specs.Pool.{goodPool}
 use Rattle.page.specs.declared.pool.State.{State}
-use Rattle.tree.specs.Check.{wellFormed}
+use Rattle.checks.specs.Check.{wellFormed}
 use Rattle.reads.specs.Answer.{Outcome, done, refused}
 
 -- 1

@@ -227,7 +227,7 @@ pub fn check(pool: &[u8], st: State) -> Told
     ensures { λ r. ⌜ ofTold r ≡ checkCall (now (pool .entry)) st ⌝ }
 {
     if page::pool::pool_is_good(pool, st) {
-        return Told::Done(tree::check::check_tree(pool, st.used, st.root));
+        return Told::Done(checks::check_tree(pool, st.used, st.root));
     }
     Told::Refused(1)
 }

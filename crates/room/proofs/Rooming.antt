@@ -31,7 +31,7 @@ use Rattle.room.specs.declared.LeafPlan.{LeafPlan}
 
 -- ---- the climb
 
-path-above : (p : ℕ) (ps : List ℕ) → pagesAbove (pathOf (p ∷ ps)) 0 ≡ ps
+pub path-above : (p : ℕ) (ps : List ℕ) → pagesAbove (pathOf (p ∷ ps)) 0 ≡ ps
 unfolding pagesAbove pad
 path-above p ps =
     let n : suc (length ps) - (0 + 1) ≡ length ps = omega arith in

@@ -10,12 +10,10 @@ use Rattle.row.specs.declared.Fault.{Fault}
 use Rattle.leaf.specs.declared.place.Cut.{Cut}
 use Rattle.tree.specs.Climb.{climbOf, climbed}
 use Rattle.tree.specs.declared.climb.Path.{Path}
-use Rattle.tree.specs.declared.climb.Climbed.{Climbed}
 use Rattle.grow.specs.Path.{pageAt, pagesAbove}
 use Rattle.grow.specs.Plan.{planOf}
 use Rattle.grow.specs.declared.plan.Plan.{Plan}
-use Rattle.room.specs.Room.{onClimbed, onPlan, fitting, dividing, planned, unplanned, leafPlan}
-use Rattle.room.specs.declared.Planned.{Planned}
+use Rattle.room.specs.Room.{onPlan, dividing, planned, unplanned, leafPlan}
 use Rattle.room.specs.declared.LeafPlan.{LeafPlan}
 
 abbrev Tells : LeafPlan → Type 0

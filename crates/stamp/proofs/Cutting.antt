@@ -22,7 +22,7 @@ use Rattle.leaf.specs.declared.place.Cut.{Cut}
 use Rattle.leaf.proofs.CutFacts.{cut-is-best}
 use Rattle.leaf.proofs.Chain.{chain-back}
 use Rattle.tree.proofs.Ways.{and-both}
-use Rattle.stamp.specs.Stamp.{longer, bytesStamped, cutStamped, CutStands}
+use Rattle.stamp.specs.Stamp.{longer, bytesStamped, cutStamped, StampCutStands}
 use Rattle.stamp.specs.declared.Target.{Target}
 use Rattle.stamp.proofs.Meeting.{Stands}
 use Rattle.stamp.proofs.Sums.{sum-append, sum-take, sum-front, sum-past, between-append, sizes-sum, sizes-between}
@@ -45,7 +45,7 @@ cut-alone t m [] (y ∷ ys) h k = absurd (omega arith)
 cut-alone t m (x ∷ xs) ys h k = absurd (omega arith)
 
 -- only a cell without a stamp gets longer
-longer-live : (c : Cell) → 0 < longer c → (c .version .stamp ≡ Stamp.Absent) × (longer c ≡ 8)
+pub longer-live : (c : Cell) → 0 < longer c → (c .version .stamp ≡ Stamp.Absent) × (longer c ≡ 8)
 longer-live c h = by-stamp (c .version .stamp) refl h
   where
     by-stamp : (x : Stamp) → c .version .stamp ≡ x → 0 < 9 - stampLen x → (c .version .stamp ≡ Stamp.Absent) × (longer c ≡ 8)
@@ -53,19 +53,19 @@ longer-live c h = by-stamp (c .version .stamp) refl h
     by-stamp (Stamp.By d) e l = absurd (omega arith)
 
 module _ (t : Target) (pg : List ℕ) (short : length pg ≤ 4096) (is : Stands pg (t .cell) (t .beside)) (over : 4084 < bytesStamped t) where
-  abbrev m : ℕ
+  abbrev pub m : ℕ
   m = t .cell .next - t .cell .at + longer (t .cell)
 
-  abbrev xs : List ℕ
+  abbrev pub xs : List ℕ
   xs = sizesOf (is .first)
 
-  abbrev ys : List ℕ
+  abbrev pub ys : List ℕ
   ys = sizesOf (is .rest)
 
-  abbrev all : List ℕ
+  abbrev pub all : List ℕ
   all = xs ++ (m ∷ ys)
 
-  live : (t .cell .version .stamp ≡ Stamp.Absent) × (longer (t .cell) ≡ 8)
+  pub live : (t .cell .version .stamp ≡ Stamp.Absent) × (longer (t .cell) ≡ 8)
   live = longer-live (t .cell) (omega (arith, is .within))
 
   sizes-are : sizesOf (cellsOf (t .beside .before) 12 pg) ++ (m ∷ sizesOf (cellsOf (cellCount pg - (t .beside .before + 1)) (t .cell .next) pg)) ≡ all
@@ -79,7 +79,7 @@ module _ (t : Target) (pg : List ℕ) (short : length pg ≤ 4096) (is : Stands 
   rest-sum : t .cell .next + sum ys ≡ t .beside .end
   rest-sum = sizes-sum pg (t .cell .next) (is .rest) (is .chain-on) ∙ is .end
 
-  whole-sum : bytesStamped t ≡ sum all
+  pub whole-sum : bytesStamped t ≡ sum all
   whole-sum = omega (arith, sum-append xs (m ∷ ys), first-sum, rest-sum, is .low, is .size, is .inside, live .1)
 
   first-long : length xs ≡ t .beside .before
@@ -91,7 +91,7 @@ module _ (t : Target) (pg : List ℕ) (short : length pg ≤ 4096) (is : Stands 
   all-long : length all ≡ length xs + suc (length ys)
   all-long = length-append xs (m ∷ ys)
 
-  cut-is : cutStamped t pg ≡ cutOf (sum all) all
+  pub cut-is : cutStamped t pg ≡ cutOf (sum all) all
   unfolding cutLeaf
   cut-is = rw (sizes-are, whole-sum)
 
@@ -122,7 +122,7 @@ module _ (t : Target) (pg : List ℕ) (short : length pg ≤ 4096) (is : Stands 
     cut-bytes : cut .bytes ≡ sum (take (cut .cells) all)
     cut-bytes = ap (λ (x : Cut). x .bytes) (cut-chosen .place)
 
-    pub cut-stands : CutStands t (cellCount pg) cut pg
+    pub cut-stands : StampCutStands t (cellCount pg) cut pg
     cut-stands =
         let n = all-long in
         let f = first-long in

@@ -13,7 +13,7 @@ use Rattle.room.specs.Room.{noFault, fitting, roomOf}
 use Rattle.room.specs.declared.Planned.{Planned}
 use Rattle.room.specs.declared.LeafPlan.{LeafPlan}
 use Rattle.stamp.specs.Stamp.{bytesStamped, stampPlan}
-use Rattle.stamp.specs.Ready.{marking, noCell, notMarking, byRoom, markAt}
+use Rattle.stamp.specs.Ready.{marking, noCell, notMarking, markingByRoom, markingAt}
 use Rattle.stamp.specs.declared.Target.{Target}
 use Rattle.stamp.specs.declared.ready.Marking.{Marking}
 
@@ -24,28 +24,28 @@ pub none-marking : (n : ℕ) (f : Fault) {x : Planned} → x ≡ fitting (record
 none-marking n f e = rw e
 
 module _ (t : Target) (plan : Planned) (n : ℕ) where
-  pub room-marking : n ≡ 0 → marking t plan ≡ byRoom t plan n
+  pub room-marking : n ≡ 0 → marking t plan ≡ markingByRoom t plan n
   room-marking h = rw (eq-eqb n 0 h)
 
-  pub room-refused : {r : Marking} → (n ≡ 0 → ⊥) → r ≡ notMarking n noFault → r ≡ byRoom t plan n
+  pub room-refused : {r : Marking} → (n ≡ 0 → ⊥) → r ≡ notMarking n noFault → r ≡ markingByRoom t plan n
   room-refused h e = e ∙ rw (ne-eqb n 0 h)
 
 module _ (s : List ℕ) (st : State) (test : ChainTest) (t : Target) {told : LeafPlan} (plans : told ≡ stampPlan st t s) {r : Marking} where
-  pub mark-unplanned : not (told .ok) ≡ true → r ≡ notMarking 2 (told .fault) → r ≡ markAt s st test t
-  unfolding markAt
+  pub mark-unplanned : not (told .ok) ≡ true → r ≡ notMarking 2 (told .fault) → r ≡ markingAt s st test t
+  unfolding markingAt
   mark-unplanned h e = e ∙ rw (← plans, not-true (told .ok) h)
 
   module _ (ok : not (told .ok) ≡ false) where
-    pub mark-lost : {f : Fault} → test ≡ ChainTest.Bad f → r ≡ notMarking 2 f → r ≡ markAt s st test t
-    unfolding markAt
+    pub mark-lost : {f : Fault} → test ≡ ChainTest.Bad f → r ≡ notMarking 2 f → r ≡ markingAt s st test t
+    unfolding markingAt
     mark-lost h e = e ∙ rw (← plans, not-false (told .ok) ok, h)
 
     module _ {conflict : Bool} (is : test ≡ ChainTest.Ok conflict) where
-      pub mark-conflict : conflict ≡ true → r ≡ notMarking 7 noFault → r ≡ markAt s st test t
-      unfolding markAt
+      pub mark-conflict : conflict ≡ true → r ≡ notMarking 7 noFault → r ≡ markingAt s st test t
+      unfolding markingAt
       mark-conflict h e = e ∙ rw (← plans, not-false (told .ok) ok, is, h)
 
       pub mark-room : {b n : ℕ} → conflict ≡ false → b ≡ bytesStamped t → n ≡ roomOf (length s / 4096) st b (told .plan)
-          → r ≡ byRoom t (told .plan) n → r ≡ markAt s st test t
-      unfolding markAt
+          → r ≡ markingByRoom t (told .plan) n → r ≡ markingAt s st test t
+      unfolding markingAt
       mark-room h u q e = e ∙ rw (← plans, not-false (told .ok) ok, is, h, ← u, ← q)

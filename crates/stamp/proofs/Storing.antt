@@ -37,7 +37,7 @@ use Rattle.room.specs.Up.{dividedUp}
 use Rattle.room.specs.declared.Planned.{Planned}
 use Rattle.room.proofs.Keeping.{PlannedIs, planned-is, RoomLeft, room-left, room-is, up-asks, up-done}
 use Rattle.stamp.specs.Target.{targetOf, Met}
-use Rattle.stamp.specs.Stamp.{longer, bytesStamped, cutStamped, stampPlan, CutStands, splicedStamp, stampedAt}
+use Rattle.stamp.specs.Stamp.{longer, bytesStamped, cutStamped, stampPlan, StampCutStands, splicedStamp, stampedAt}
 use Rattle.stamp.specs.declared.Target.{Target}
 use Rattle.stamp.proofs.Meeting.{Stands, target-stands}
 use Rattle.stamp.proofs.Cutting.{cut-stands}
@@ -90,7 +90,7 @@ module _ (s : List ℕ) (st : State) (t : Target) (plan : Planned) (d : ℕ) (go
     pub free-left : RoomLeft s st plan
     free-left = room-left s st (bytesStamped t) plan good room over
 
-    cut-there : {n : ℕ} → n ≡ cellCount pg → CutStands t n (plan .cut) pg
+    cut-there : {n : ℕ} → n ≡ cellCount pg → StampCutStands t n (plan .cut) pg
     cut-there e =
         let f = room-is (length s / 4096) st (bytesStamped t) plan room over .cuts in
         rw (e, cut-is) (cut-stands t pg (omega (arith, leaf-long)) stands overfull (rw cut-is at f))
@@ -103,7 +103,7 @@ module _ (s : List ℕ) (st : State) (t : Target) (plan : Planned) (d : ℕ) (go
       same-leaf = rw fresh (fresh-other s st (free-left .there) (t .leaf) (λ e. omega (arith, met .in-use)))
 
       -- what `divide_at` asks for
-      pub divide-asks : (t .leaf < a .page) × There (a .page) s₁ × (page (a .page) s₁ ≡ zeros 4096) × CutStands t n (plan .cut) (page (t .leaf) s₁)
+      pub divide-asks : (t .leaf < a .page) × There (a .page) s₁ × (page (a .page) s₁ ≡ zeros 4096) × StampCutStands t n (plan .cut) (page (t .leaf) s₁)
       divide-asks = (
         rw page-is (met .in-use),
         rw (page-is, fresh, fresh-long s st (free-left .there)) (free-left .there),

@@ -41,10 +41,6 @@ notMarking n f =
       plan = fitting (record { pages = zeros 4; len = 0 });
     }
 
--- 2 is BadTree
-abbrev pub badTree : Fault → Marking
-badTree f = notMarking 2 f
-
 abbrev pub onMarking : {A : Type 0} → (Target → Planned → A) → (ℕ → Fault → A) → Marking → A
 onMarking good ill x = pick (x .ok) (good (x .target) (x .plan)) (ill (x .number) (x .fault))
 
@@ -54,13 +50,13 @@ onTest met unmet ill (ChainTest.Ok false) = unmet
 onTest met unmet ill (ChainTest.Bad f) = ill f
 
 -- 11, 10, and 0 for none
-abbrev pub byRoom : Target → Planned → ℕ → Marking
-byRoom t plan n = pick (eqb n 0) (marking t plan) (notMarking n noFault)
+abbrev pub markingByRoom : Target → Planned → ℕ → Marking
+markingByRoom t plan n = pick (eqb n 0) (marking t plan) (notMarking n noFault)
 
 -- 2, 7, 11, 10: the target is found, and what the conflict test says of it
-unfoldable pub markAt : List ℕ → State → ChainTest → Target → Marking
-markAt s st test t =
+unfoldable pub markingAt : List ℕ → State → ChainTest → Target → Marking
+markingAt s st test t =
     onLeafPlan
-    (λ plan. onTest (notMarking 7 noFault) (byRoom t plan (roomOf (length s / 4096) st (bytesStamped t) plan)) badTree test)
-    badTree
+    (λ plan. onTest (notMarking 7 noFault) (markingByRoom t plan (roomOf (length s / 4096) st (bytesStamped t) plan)) (notMarking 2) test)
+    (notMarking 2)
     (stampPlan st t s)

@@ -40,7 +40,7 @@ unfoldable pub stampPlan : State → Target → List ℕ → LeafPlan
 stampPlan st t s = leafPlan st (t .leaf) (ltb 4084 (bytesStamped t)) (cutStamped t (page (t .leaf) s)) s
 
 -- a cut of n cells, one of them live and to be stamped: it goes between two of them, and both sides fit a page
-pub record CutStands (t : Target) (n : ℕ) (cut : Cut) (pg : List ℕ) : Type 0 where
+pub record StampCutStands (t : Target) (n : ℕ) (cut : Cut) (pg : List ℕ) : Type 0 where
   pub there : cellAt pg (t .cell .at) ≡ CellRead.Got (t .cell)
   pub live : t .cell .version .stamp ≡ Stamp.Absent
   pub low : 12 ≤ t .cell .at

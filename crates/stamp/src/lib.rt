@@ -16,7 +16,7 @@ ghost use Rattle.grow.specs.Grow.{grown};
 ghost use Rattle.room.specs.Room.{planned, roomOf};
 ghost use Rattle.room.specs.Up.{dividedUp};
 ghost use Rattle.stamp.specs.Target.{besideOf, targetOf, Met};
-ghost use Rattle.stamp.specs.Stamp.{longer, bytesStamped, cutStamped, stampPlan, splicedStamp, CutStands, stampedAt};
+ghost use Rattle.stamp.specs.Stamp.{longer, bytesStamped, cutStamped, stampPlan, splicedStamp, StampCutStands, stampedAt};
 use leaf::place::Cut;
 use page::PAGE_SIZE;
 use page::pool::State;
@@ -117,7 +117,7 @@ pub fn plan_stamp(pool: &[u8], st: State, t: Target) -> LeafPlan
 
 // The leaf with the cell stamped divides at the cut: page q takes the right side.
 fn divide_at(pool: &mut [u8], t: Target, q: u32, n: usize, cut: Cut, d: u64)
-    requires { ⌜ (t .leaf < q) × (q * 4096 + 4096 ≤ length (now pool)) × (page q (now pool) ≡ zeros 4096) × CutStands t n cut (page (t .leaf) (now pool)) ⌝ }
+    requires { ⌜ (t .leaf < q) × (q * 4096 + 4096 ≤ length (now pool)) × (page q (now pool) ≡ zeros 4096) × StampCutStands t n cut (page (t .leaf) (now pool)) ⌝ }
     ensures { λ _. ⌜ now (pool .exit) ≡ divided (t .leaf) q n cut (splicedStamp d t (page (t .leaf) (now (pool .entry)))) (now (pool .entry)) ⌝ }
 {
     let p = t.leaf;

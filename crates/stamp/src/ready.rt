@@ -5,7 +5,7 @@ ghost use Rattle.page.specs.Page.{page};
 ghost use Rattle.page.specs.Pool.{goodPool};
 ghost use Rattle.room.specs.Room.{noFault};
 ghost use Rattle.stamp.specs.Target.{targetOf, Met};
-ghost use Rattle.stamp.specs.Ready.{notMarking, byRoom, markAt};
+ghost use Rattle.stamp.specs.Ready.{notMarking, markingByRoom, markingAt};
 use crate::Beside;
 use crate::Target;
 use page::PAGE_SIZE;
@@ -74,7 +74,7 @@ pub fn refused(number: u8) -> Marking
 }
 
 fn by_room(t: Target, plan: Planned, n: u8) -> Marking
-    ensures { λ r. ⌜ r ≡ byRoom t plan n ⌝ }
+    ensures { λ r. ⌜ r ≡ markingByRoom t plan n ⌝ }
 {
     if n == 0 {
         return Marking {
@@ -93,9 +93,9 @@ fn by_room(t: Target, plan: Planned, n: u8) -> Marking
 }
 
 // The target is found; test is what the conflict test says of it.
-pub fn mark_at(pool: &[u8], st: State, test: ChainTest, t: Target) -> Marking
+pub fn marking_at(pool: &[u8], st: State, test: ChainTest, t: Target) -> Marking
     requires { ⌜ (goodPool (now pool) st ≡ true) × Met (st .used) (t .leaf) (t .cell) (now pool) × (t ≡ targetOf (t .leaf) (t .cell) (page (t .leaf) (now pool))) ⌝ }
-    ensures { λ r. ⌜ r ≡ markAt (now (pool .entry)) st test t ⌝ }
+    ensures { λ r. ⌜ r ≡ markingAt (now (pool .entry)) st test t ⌝ }
 {
     let told = crate::plan_stamp(pool, st, t);
     let plan = told.plan;

@@ -5,6 +5,4 @@ pub mod Distinct
 pub mod Climb
 pub mod ChainFacts
 pub mod Lookup
-pub mod Check
-pub mod CheckFacts
 pub mod Create

@@ -16,7 +16,7 @@ use Rattle.row.specs.declared.Pointer.{Pointer}
 use Rattle.mvcc.specs.Lists.{goodStatuses}
 use Rattle.mvcc.specs.declared.Current.{Current}
 use Rattle.room.specs.Room.{noFault}
-use Rattle.grow.specs.Grow.{Grown, grown}
+use Rattle.grow.specs.Grow.{grown}
 use Rattle.insert.specs.Insert.{insertedAt}
 use Rattle.insert.specs.Ready.{notReady, versionAt, creatorOf, newAt}
 use Rattle.insert.specs.declared.ready.Ready.{Ready}

@@ -29,17 +29,17 @@ target-at-requires c κs = let f = looked-finds _ _ _ _ _ _ _ _ (c .before .befo
 test-in-tree-requires : tie.Need-test-in-tree-requires
 test-in-tree-requires c κs = let f = looked-finds _ _ _ _ _ _ _ _ (c .before .before .before .before .before .before .find-visible-at .ensures) (c .before .before .before .before .looked .given .1) in (pool-is _ _ (f .good) .room, good-statuses-judged _ _ (f .statuses), good-active-rises _ (f .list))
 
-mark-at-requires : tie.Need-mark-at-requires
-mark-at-requires c κs = let f = looked-finds _ _ _ _ _ _ _ _ (c .before .before .before .before .before .before .before .find-visible-at .ensures) (c .before .before .before .before .before .looked .given .1) in let g = target-met _ _ _ _ (c .before .before .before .target-at .ensures) (f .met) in (f .good, g .0, g .1)
+marking-at-requires : tie.Need-marking-at-requires
+marking-at-requires c κs = let f = looked-finds _ _ _ _ _ _ _ _ (c .before .before .before .before .before .before .before .find-visible-at .ensures) (c .before .before .before .before .before .looked .given .1) in let g = target-met _ _ _ _ (c .before .before .before .target-at .ensures) (f .met) in (f .good, g .0, g .1)
 
 returns-2 : tie.Need-returns-2
-returns-2 c = ready-asked _ _ _ _ _ _ _ _ _ (c .before .before .before .before .before .before .before .before .find-visible-at .ensures) (c .before .before .before .before .before .before .looked .given .1) (c .before .before .before .before .target-at .ensures) (c .before .before .before .if1 .taken) (c .before .test-in-tree .ensures) (c .mark-at .ensures)
+returns-2 c = ready-asked _ _ _ _ _ _ _ _ _ (c .before .before .before .before .before .before .before .before .find-visible-at .ensures) (c .before .before .before .before .before .before .looked .given .1) (c .before .before .before .before .target-at .ensures) (c .before .before .before .if1 .taken) (c .before .test-in-tree .ensures) (c .marking-at .ensures)
 
-mark-at-requires-2 : tie.Need-mark-at-requires-2
-mark-at-requires-2 c κs = let f = looked-finds _ _ _ _ _ _ _ _ (c .before .before .before .before .before .find-visible-at .ensures) (c .before .before .before .looked .given .1) in let g = target-met _ _ _ _ (c .before .target-at .ensures) (f .met) in (f .good, g .0, g .1)
+marking-at-requires-2 : tie.Need-marking-at-requires-2
+marking-at-requires-2 c κs = let f = looked-finds _ _ _ _ _ _ _ _ (c .before .before .before .before .before .find-visible-at .ensures) (c .before .before .before .looked .given .1) in let g = target-met _ _ _ _ (c .before .target-at .ensures) (f .met) in (f .good, g .0, g .1)
 
 returns-3 : tie.Need-returns-3
-returns-3 c = ready-plain _ _ _ _ _ _ _ _ _ (c .before .before .before .before .before .before .find-visible-at .ensures) (c .before .before .before .before .looked .given .1) (c .before .before .target-at .ensures) (c .before .if1 .left) (c .mark-at2 .ensures)
+returns-3 c = ready-plain _ _ _ _ _ _ _ _ _ (c .before .before .before .before .before .before .find-visible-at .ensures) (c .before .before .before .before .looked .given .1) (c .before .before .target-at .ensures) (c .before .if1 .left) (c .marking-at2 .ensures)
 
 pub mark-ready-spec : {M : Type 1} → statement M
-mark-ready-spec = tie.close (tie.spec find-visible-at-requires enum-known-looked enum-told not-found-requires returns target-at-requires test-in-tree-requires mark-at-requires returns-2 mark-at-requires-2 returns-3)
+mark-ready-spec = tie.close (tie.spec find-visible-at-requires enum-known-looked enum-told not-found-requires returns target-at-requires test-in-tree-requires marking-at-requires returns-2 marking-at-requires-2 returns-3)

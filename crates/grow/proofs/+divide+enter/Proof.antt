@@ -18,9 +18,9 @@ use Rattle.grow.proofs.+divide+enter.Lts-enter as enter-lts
 use Rattle.grow.proofs.grow_top.Reads as grow-top-reads
 use Rattle.grow.proofs.join.Reads as join-reads
 use Rattle.inner.proofs.child_place.Reads as child-place-reads
-use Rattle.inner.proofs.edit.adopt.Reads as adopt-reads
-use Rattle.inner.proofs.edit.adopt_one.Reads as adopt-one-reads
-use Rattle.inner.proofs.edit.divide.Reads as divide-reads
+use Rattle.branch.proofs.adopt.Reads as adopt-reads
+use Rattle.branch.proofs.adopt_one.Reads as adopt-one-reads
+use Rattle.branch.proofs.divide.Reads as divide-reads
 use Rattle.page.proofs.get_cell_count.Reads as get-cell-count-reads
 use Rattle.page.proofs.pool.allocate.Reads as allocate-reads
 use Rattle.page.proofs.pool.page_of.Reads as page-of-reads

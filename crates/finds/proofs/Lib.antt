@@ -1,0 +1,5 @@
+pub mod Paging
+pub mod Descending
+pub mod Walking
+pub mod Looking
+pub mod Climbing

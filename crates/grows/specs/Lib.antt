@@ -1,0 +1,2 @@
+-- What a reader of the theorems of `grows` has to believe.
+pub mod Rooted

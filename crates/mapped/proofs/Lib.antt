@@ -1,0 +1,5 @@
+pub mod Changing
+pub mod Running
+pub mod Removing
+pub mod Vacuuming
+pub mod Framing

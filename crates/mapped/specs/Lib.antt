@@ -1,0 +1,1 @@
+-- The statements are over the definitions of `cleans`, `sweep` and `shapes`; there are none of its own.

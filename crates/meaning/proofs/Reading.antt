@@ -1,0 +1,63 @@
+-- Lookup finds the version that is meant, and check says yes exactly for a well-formed tree. Assumes nothing.
+use mathlib.Core.Path.{_≡_, refl, ap, _∙_}
+use mathlib.Core.Bool.{Bool, true, false}
+use mathlib.Core.List.{List}
+use Prim.Native.Nat.{ℕ}
+use native.Mathlib.Omega.{arith}
+use Rattle.store.specs.Le.{AreBytes}
+use Rattle.store.specs.Pick.{pick}
+use Rattle.page.specs.Pool.{goodPool}
+use Rattle.mvcc.specs.Lists.{lookup, goodActive, goodStatuses}
+use Rattle.mvcc.specs.declared.Current.{Current}
+use Rattle.leaf.specs.declared.find.Best.{Best}
+use Rattle.checks.specs.Check.{wellFormed}
+use Rattle.tree.specs.declared.ChainBest.{ChainBest}
+use Rattle.grow.specs.Grow.{Grown}
+use Rattle.reads.specs.Answer.{Outcome, Value, value, nothing, done, refused}
+use Rattle.reads.specs.Check.{checkCall}
+use Rattle.reads.specs.Find.{lookedBest, findVisibleRun}
+use Rattle.shapes.specs.Shape.{Shape}
+use Rattle.formed.proofs.Formed.{formed-is, formed-yes}
+use Rattle.finds.proofs.Looking.{rowIn, BestIs, best-is}
+use Rattle.meaning.specs.Trees.{TreeIn, CheckIs}
+use Rattle.meaning.specs.Demand.{rowFound, LookupIs}
+
+-- ---- lookup
+
+module _ (g : Grown) (t : Shape) (tree : TreeIn g t) (key xmax : ℕ) (active : List ℕ) (cur : Current) (ids states : List ℕ) where
+  pub found : BestIs (lookup ids states) active xmax cur key (g .pool) (g .state .root) (g .state .used) t
+  found = best-is (lookup ids states) active xmax cur key (g .pool) (g .state .root) (g .state .used) t (tree .formed)
+
+  pub looks : goodActive active ≡ true → goodStatuses ids states ≡ true
+      → findVisibleRun (g .pool) (g .state) key xmax active cur ids states ≡ lookedBest (ChainBest.Ok (found .found))
+  unfolding findVisibleRun
+  looks a s = rw (tree .good, a, s, found .told)
+
+looked-row : (s : List ℕ) (b : Best) → rowFound s (lookedBest (ChainBest.Ok b)) ≡ rowIn s b
+looked-row s (Best.At p c) = refl
+looked-row s Best.Nothing = refl
+
+pub lookup-is : LookupIs
+lookup-is g t key xmax active cur ids states tree a s =
+    let b = found g t tree key xmax active cur ids states in
+    ap (rowFound (g .pool)) (looks g t tree key xmax active cur ids states a s) ∙ (looked-row (g .pool) (b .found) ∙ b .row)
+
+-- ---- check
+
+pub check-is : CheckIs
+unfolding checkCall
+check-is = record { yes = λ g t tree. rw (tree .good, formed-yes (g .state .used) (g .state .root) (g .pool) t (tree .formed)); only = only-tree }
+  where
+    gives : Outcome Bool → Value Bool
+    gives o = o .gives
+
+    by-tests : (g : Grown) → AreBytes (g .pool) → (a : Bool) → goodPool (g .pool) (g .state) ≡ a → (b : Bool) → wellFormed (g .state .used) (g .state .root) (g .pool) ≡ b
+        → pick a (done b) (refused 1) ≡ done true → (t : Shape) × TreeIn g t
+    by-tests g B true p true q e =
+        let f = formed-is (g .state .used) (g .state .root) (g .pool) q in
+        (f .0, record { bytes = B; good = p; formed = f .1 })
+    by-tests g B true p false q e = absurd (let w : value false ≡ value true = ap gives e in let z : _≡_ {A = ℕ} 0 1 = cc in omega arith)
+    by-tests g B false p b q e = absurd (let w : nothing ≡ value true = ap gives e in let z : _≡_ {A = ℕ} 0 1 = cc in omega arith)
+
+    only-tree : (g : Grown) → AreBytes (g .pool) → checkCall (g .pool) (g .state) ≡ done true → (t : Shape) × TreeIn g t
+    only-tree g B e = by-tests g B (goodPool (g .pool) (g .state)) refl (wellFormed (g .state .used) (g .state .root) (g .pool)) refl e

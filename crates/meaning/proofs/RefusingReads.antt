@@ -1,0 +1,250 @@
+-- The reading calls refuse as demand 1 has it: create, check, lookup, conflict, and the listings, of which none but a Done
+-- one changes the output. Assumes nothing.
+use mathlib.Core.Path.{_≡_, refl}
+use mathlib.Core.Bool.{Bool, true, false}
+use mathlib.Core.List.{List, [], _∷_}
+use Prim.Native.Nat.{ℕ}
+use native.Mathlib.Omega.{arith}
+use lib.Dec.{leb}
+use lib.ListN.{length}
+use Rattle.store.specs.Pick.{pick}
+use Rattle.page.specs.Pool.{goodPool}
+use Rattle.page.specs.declared.pool.State.{State}
+use Rattle.leaf.specs.Rows.{Row}
+use Rattle.leaf.specs.declared.find.Best.{Best}
+use Rattle.mvcc.specs.Lists.{mem, rising, lookup, goodActive, goodStatuses}
+use Rattle.mvcc.specs.Rules.{plainXmax, plainActive}
+use Rattle.mvcc.specs.declared.Current.{Current}
+use Rattle.tree.specs.Create.{rooted, createdPool}
+use Rattle.tree.specs.Chain.{Told, ok, ill}
+use Rattle.tree.specs.Descend.{descendOf, onLeaf}
+use Rattle.tree.specs.Lookup.{bestInTree, testInTree}
+use Rattle.tree.specs.declared.Route.{Route}
+use Rattle.tree.specs.declared.Descent.{Descent}
+use Rattle.tree.specs.declared.ChainBest.{ChainBest}
+use Rattle.tree.specs.declared.ChainTest.{ChainTest}
+use Rattle.listing.specs.Records.{records}
+use Rattle.listing.specs.Listed.{Written, written, fitted}
+use Rattle.listing.specs.declared.Listing.{Listing}
+use Rattle.versions.specs.Gather.{rowsAlong}
+use Rattle.versions.specs.Listed.{listedRows, routeOf, listTree}
+use Rattle.versions.specs.declared.Which.{Which}
+use Rattle.numbers.specs.Numbers.{onTold, numbersOf, numberRecords, numbersTree}
+use Rattle.scan.specs.Visible.{chainRows, scanRows, listedVisible, scanTree}
+use Rattle.reads.specs.Answer.{done, refused}
+use Rattle.reads.specs.Create.{hasPage, createCall, createAfter}
+use Rattle.reads.specs.Find.{plain, lookedBest, findVisibleRun, hidden, findVisibleCall, findCall}
+use Rattle.reads.specs.Conflict.{toldTest, conflictCall}
+use Rattle.reads.specs.Check.{checkCall}
+use Rattle.reads.specs.Listings.{listedAs, listRun, hideList, versionsOfCall, allVersionsCall}
+use Rattle.reads.specs.Numbers.{numbersRun, pageNumbersCall}
+use Rattle.reads.specs.Scan.{scanRun, scanVisibleCall}
+use Rattle.reads.specs.declared.Looked.{Looked}
+use Rattle.reads.specs.declared.ListedAt.{ListedAt}
+use Rattle.meaning.specs.Refusals.{Refuses, KeepsOutput, ReadsRefuse}
+use Rattle.meaning.proofs.Refusing.{Known, either, done-refuses, refused-refuses}
+
+-- ---- create and check
+
+module _ (s : List ℕ) (st : State) where
+  create-refuses : Refuses (1 ∷ 10 ∷ []) (createCall s st)
+  unfolding createCall mem
+  create-refuses =
+      either (Refuses _) (goodPool s st)
+      (λ e. either (Refuses _) (hasPage s st) (λ e. done-refuses _ _) (λ e. refused-refuses _ 10 refl))
+      (λ e. refused-refuses _ 1 refl)
+
+  create-stays : (createCall s st .number ≡ 0 → ⊥) → createAfter s st ≡ s
+  unfolding createCall createAfter
+  create-stays = by-tests (goodPool s st) (hasPage s st)
+    where
+      by-tests : (a b : Bool) → (pick a (pick b (done (rooted s st)) (refused 10)) (refused 1) .number ≡ 0 → ⊥) → pick a (pick b (createdPool s st) s) s ≡ s
+      by-tests true true h = absurd (h refl)
+      by-tests true false h = refl
+      by-tests false b h = refl
+
+  check-refuses : Refuses (1 ∷ []) (checkCall s st)
+  unfolding checkCall mem
+  check-refuses = either (Refuses _) (goodPool s st) (λ e. done-refuses _ _) (λ e. refused-refuses _ 1 refl)
+
+-- ---- lookup
+
+-- a version, or one of these numbers
+abbrev pub LookedKnown : List ℕ → Looked → Type 0
+LookedKnown ns (Looked.At p c) = Unit
+LookedKnown ns (Looked.Refused r) = Known ns (r .number)
+
+module _ (ns : List ℕ) where
+  best-known : Known ns 2 → Known ns 8 → (b : ChainBest) → LookedKnown ns (lookedBest b)
+  best-known two eight (ChainBest.Ok (Best.At p c)) = tt
+  best-known two eight (ChainBest.Ok Best.Nothing) = eight
+  best-known two eight (ChainBest.Bad f) = two
+
+  pub looked-known : (s : List ℕ) (st : State) (key xmax : ℕ) (active : List ℕ) (cur : Current) (ids states : List ℕ)
+      → Known ns 1 → (goodActive active ≡ false → Known ns 3) → Known ns 4 → Known ns 2 → Known ns 8
+      → LookedKnown ns (findVisibleRun s st key xmax active cur ids states)
+  unfolding findVisibleRun
+  looked-known s st key xmax active cur ids states one three four two eight =
+      either (LookedKnown ns) (goodPool s st)
+      (λ e.
+      either (LookedKnown ns) (goodActive active)
+      (λ e.
+      either (LookedKnown ns) (goodStatuses ids states)
+      (λ e. best-known two eight (bestInTree (lookup ids states) active xmax cur (st .used) (st .root) key s))
+      (λ e. four))
+      three)
+      (λ e. one)
+
+  hidden-refuses : (r : Looked) → LookedKnown ns r → Refuses ns (hidden r)
+  hidden-refuses (Looked.At p c) k = done-refuses ns _
+  hidden-refuses (Looked.Refused r) k = refused-refuses ns (r .number) k
+
+-- the plain snapshot's list is never refused
+pub plain-active : {A : Type 0} → goodActive [] ≡ false → A
+unfolding goodActive rising
+plain-active e = absurd (let z : _≡_ {A = ℕ} 0 1 = cc in omega arith)
+
+find-visible-refuses : (s : List ℕ) (st : State) (key xmax : ℕ) (active : List ℕ) (cur : Current) (ids states : List ℕ)
+    → Refuses (1 ∷ 3 ∷ 4 ∷ 2 ∷ 8 ∷ []) (findVisibleCall s st key xmax active cur ids states)
+unfolding findVisibleCall mem
+find-visible-refuses s st key xmax active cur ids states =
+    hidden-refuses _ (findVisibleRun s st key xmax active cur ids states) (looked-known _ s st key xmax active cur ids states refl (λ e. refl) refl refl refl)
+
+find-refuses : (s : List ℕ) (st : State) (key : ℕ) (cur : Current) (ids states : List ℕ) → Refuses (1 ∷ 4 ∷ 2 ∷ 8 ∷ []) (findCall s st key cur ids states)
+unfolding findCall findVisibleCall mem
+find-refuses s st key cur ids states =
+    hidden-refuses _ (findVisibleRun s st key plainXmax plainActive cur ids states)
+    (looked-known _ s st key plainXmax plainActive cur ids states refl plain-active refl refl refl)
+
+-- ---- conflict
+
+told-refuses : (ns : List ℕ) → Known ns 2 → (t : ChainTest) → Refuses ns (toldTest t)
+told-refuses ns two (ChainTest.Ok b) = done-refuses ns b
+told-refuses ns two (ChainTest.Bad f) = refused-refuses ns 2 two
+
+conflict-refuses : (s : List ℕ) (st : State) (key seen xmax : ℕ) (active : List ℕ) (cur : Current) → Refuses (1 ∷ 3 ∷ 2 ∷ []) (conflictCall s st key seen xmax active cur)
+unfolding conflictCall mem
+conflict-refuses s st key seen xmax active cur =
+    either (Refuses _) (goodPool s st)
+    (λ e.
+    either (Refuses _) (goodActive active)
+    (λ e. told-refuses _ refl (testInTree false (lookup [] []) active xmax cur (st .used) (st .root) seen key s))
+    (λ e. refused-refuses _ 3 refl))
+    (λ e. refused-refuses _ 1 refl)
+
+-- ---- the listings
+
+-- only a listing that is Done changes the output
+abbrev Leaves : List ℕ → Listing → List ℕ → Type 0
+Leaves out (Listing.Done n) after = Unit
+Leaves out Listing.Short after = after ≡ out
+Leaves out (Listing.Bad f) after = after ≡ out
+
+abbrev AsWas : List ℕ → Written Listing → Type 0
+AsWas out w = Leaves out (w .answer) (w .output)
+
+module _ (out : List ℕ) where
+  fitted-leaves : (x : List ℕ) → AsWas out (fitted x out)
+  unfolding fitted
+  fitted-leaves x = either (AsWas out) (leb (length x) (length out)) (λ e. tt) (λ e. refl)
+
+  list-leaves : (w : Which) (used root : ℕ) (s : List ℕ) → AsWas out (listTree w used root s out)
+  unfolding listTree
+  list-leaves w used root s = by-way (descendOf 3 (routeOf w) used root s)
+    where
+      by-rows : (t : Told (List Row)) → AsWas out (listedRows t out)
+      by-rows (ok rs) = fitted-leaves (records rs)
+      by-rows (ill f) = refl
+
+      by-way : (d : Descent) → AsWas out (onLeaf (λ p. listedRows (rowsAlong w used p s) out) (λ f. written (Listing.Bad f) out) d)
+      by-way (Descent.Leaf p) = by-rows (rowsAlong w used p s)
+      by-way (Descent.Bad f) = refl
+
+  numbers-leaves : (used root : ℕ) (s : List ℕ) → AsWas out (numbersTree used root s out)
+  unfolding numbersTree
+  numbers-leaves used root s = by-told (numbersOf used root s)
+    where
+      by-told : (t : Told (List ℕ)) → AsWas out (onTold (λ l. fitted (numberRecords l) out) (λ f. written (Listing.Bad f) out) t)
+      by-told (ok l) = fitted-leaves (numberRecords l)
+      by-told (ill f) = refl
+
+  scan-leaves : (st : ℕ → ℕ) (active : List ℕ) (xmax : ℕ) (cur : Current) (used root : ℕ) (s : List ℕ) → AsWas out (scanTree st active xmax cur used root s out)
+  unfolding scanTree
+  scan-leaves st active xmax cur used root s = by-way (descendOf 3 Route.First used root s)
+    where
+      by-rows : (t : Told (List Row)) → AsWas out (listedVisible st active xmax cur out t)
+      by-rows (ok rs) = fitted-leaves (records (scanRows st active xmax cur rs))
+      by-rows (ill f) = refl
+
+      by-way : (d : Descent) → AsWas out (onLeaf (λ p. listedVisible st active xmax cur out (chainRows used p s)) (λ f. written (Listing.Bad f) out) d)
+      by-way (Descent.Leaf p) = by-rows (chainRows used p s)
+      by-way (Descent.Bad f) = refl
+
+  module _ (ns : List ℕ) where
+    abbrev Ends : Written ListedAt → Type 0
+    Ends w = KeepsOutput out ns (hideList w)
+
+    not-listed : (n : ℕ) → Known ns n → Ends (written (ListedAt.Refused (plain n)) out)
+    not-listed n k = record { refuses = refused-refuses ns n k; stays = λ h. refl }
+
+    listed-ends : Known ns 2 → Known ns 12 → (w : Written Listing) → AsWas out w → Ends (listedAs w)
+    listed-ends two twelve w h = by-listing (w .answer) (w .output) h
+      where
+        by-listing : (l : Listing) (after : List ℕ) → Leaves out l after → Ends (listedAs (written l after))
+        by-listing (Listing.Done n) after k = record { refuses = done-refuses ns n; stays = λ h. absurd (h refl) }
+        by-listing Listing.Short after k = record { refuses = refused-refuses ns 12 twelve; stays = λ h. k }
+        by-listing (Listing.Bad f) after k = record { refuses = refused-refuses ns 2 two; stays = λ h. k }
+
+  module _ (s : List ℕ) (st : State) where
+    list-keeps : (w : Which) → KeepsOutput out (1 ∷ 2 ∷ 12 ∷ []) (hideList (listRun w s st out))
+    unfolding listRun mem
+    list-keeps w =
+        either (Ends _) (goodPool s st)
+        (λ e. listed-ends _ refl refl (listTree w (st .used) (st .root) s out) (list-leaves w (st .used) (st .root) s))
+        (λ e. not-listed _ 1 refl)
+
+    versions-keeps : (key : ℕ) → KeepsOutput out (1 ∷ 2 ∷ 12 ∷ []) (versionsOfCall s st key out)
+    unfolding versionsOfCall
+    versions-keeps key = list-keeps (Which.Key key)
+
+    all-keeps : KeepsOutput out (1 ∷ 2 ∷ 12 ∷ []) (allVersionsCall s st out)
+    unfolding allVersionsCall
+    all-keeps = list-keeps Which.All
+
+    numbers-keeps : KeepsOutput out (1 ∷ 2 ∷ 12 ∷ []) (pageNumbersCall s st out)
+    unfolding pageNumbersCall numbersRun mem
+    numbers-keeps =
+        either (Ends _) (goodPool s st)
+        (λ e. listed-ends _ refl refl (numbersTree (st .used) (st .root) s out) (numbers-leaves (st .used) (st .root) s))
+        (λ e. not-listed _ 1 refl)
+
+    scan-keeps : (xmax : ℕ) (active : List ℕ) (cur : Current) (ids states : List ℕ)
+        → KeepsOutput out (1 ∷ 3 ∷ 4 ∷ 2 ∷ 12 ∷ []) (scanVisibleCall s st xmax active cur ids states out)
+    unfolding scanVisibleCall scanRun mem
+    scan-keeps xmax active cur ids states =
+        either (Ends _) (goodPool s st)
+        (λ e.
+        either (Ends _) (goodActive active)
+        (λ e.
+        either (Ends _) (goodStatuses ids states)
+        (λ e.
+        listed-ends _ refl refl (scanTree (lookup ids states) active xmax cur (st .used) (st .root) s out)
+        (scan-leaves (lookup ids states) active xmax cur (st .used) (st .root) s))
+        (λ e. not-listed _ 4 refl))
+        (λ e. not-listed _ 3 refl))
+        (λ e. not-listed _ 1 refl)
+
+pub reads-refuse : ReadsRefuse
+reads-refuse =
+    record {
+      create = create-refuses;
+      create-stays = create-stays;
+      check = check-refuses;
+      find-visible = find-visible-refuses;
+      find = find-refuses;
+      conflict = conflict-refuses;
+      versions-of = λ s st key out. versions-keeps out s st key;
+      all-versions = λ s st out. all-keeps out s st;
+      scan-visible = λ s st xmax active cur ids states out. scan-keeps out s st xmax active cur ids states;
+      page-numbers = λ s st out. numbers-keeps out s st;
+    }

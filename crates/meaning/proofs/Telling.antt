@@ -1,0 +1,177 @@
+-- What the reading calls say of a well-formed tree: its versions and its page numbers. Assumes nothing.
+use mathlib.Core.Path.{_≡_, refl, sym, ap, _∙_}
+use mathlib.Core.Bool.{Bool, true, false, _&&_}
+use mathlib.Core.List.{List, [], _∷_, _++_, append-nil, append-assoc}
+use Prim.Native.Nat.{ℕ}
+use lib.Dec.{eqb}
+use Rattle.store.specs.Pick.{pick}
+use Rattle.mvcc.specs.Lists.{lookup, goodActive, goodStatuses}
+use Rattle.mvcc.specs.Rules.{conflicting}
+use Rattle.mvcc.specs.declared.Current.{Current}
+use Rattle.leaf.specs.Cells.{judgeLeaf}
+use Rattle.leaf.specs.Rows.{Row, rows}
+use Rattle.leaf.specs.declared.Judged.{Judged}
+use Rattle.leaf.specs.declared.find.Best.{Best}
+use Rattle.tree.specs.Chain.{Seen, stop, go, ok, along}
+use Rattle.tree.specs.declared.ChainBest.{ChainBest}
+use Rattle.grow.specs.Grow.{Grown}
+use Rattle.listing.specs.Records.{records}
+use Rattle.versions.specs.Gather.{ofKey as keyed, lookRows, rowsAlong}
+use Rattle.versions.specs.Listed.{listTree}
+use Rattle.versions.specs.declared.Which.{Which}
+use Rattle.numbers.specs.Numbers.{numberRecords, numbersTree}
+use Rattle.scan.specs.Visible.{lookAll, chainRows, scanRows, scanTree}
+use Rattle.reads.specs.Answer.{done}
+use Rattle.reads.specs.Find.{lookedBest, hidden, findVisibleCall}
+use Rattle.reads.specs.Conflict.{conflictCall}
+use Rattle.reads.specs.Listings.{listRun, versionsOfCall, allVersionsCall}
+use Rattle.reads.specs.Numbers.{numbersRun, pageNumbersCall}
+use Rattle.reads.specs.Scan.{scanRun, scanVisibleCall}
+use Rattle.shapes.specs.View.{view}
+use Rattle.shapes.specs.Shape.{Shape, chain, first, All, WellFormed}
+use Rattle.shapes.specs.Versions.{only, ofKey, best}
+use Rattle.shapes.proofs.Workers.{larger}
+use Rattle.shapes.proofs.Contexts.{top}
+use Rattle.shapes.proofs.Seek.{leafOf}
+use Rattle.shapes.proofs.Walk.{locs, locs-plug}
+use Rattle.finds.proofs.Descending.{descend-search, descend-first}
+use Rattle.finds.proofs.Walking.{at-leaves, gather-chain, walk-key, walk-all}
+use Rattle.finds.proofs.Looking.{larger-is, rowIn, meets, test-is}
+use Rattle.meaning.specs.Trees.{TreeIn}
+use Rattle.meaning.specs.Meant.{seenBy, someOf, onBest}
+use Rattle.meaning.specs.Reads.{listing, numbersIn, ReadsTell}
+use Rattle.meaning.proofs.Last.{some-is}
+use Rattle.meaning.proofs.Reading.{found, looks}
+use Rattle.meaning.proofs.Visiting.{numbers-are}
+
+-- ---- lookup
+
+looked-number : (s : List ℕ) (b : Best) → hidden (lookedBest (ChainBest.Ok b)) .number ≡ onBest 8 (λ y. 0) (rowIn s b)
+looked-number s (Best.At p c) = refl
+looked-number s Best.Nothing = refl
+
+-- ---- the rows that a listing gathers
+
+keyed-app : (key : ℕ) (xs ys : List Row) → keyed key (xs ++ ys) ≡ keyed key xs ++ keyed key ys
+unfolding keyed
+keyed-app key [] ys = refl
+keyed-app key (x ∷ xs) ys = by-key (eqb (x .key) key) (keyed-app key xs ys)
+  where
+    by-key : (b : Bool) → keyed key (xs ++ ys) ≡ keyed key xs ++ keyed key ys
+        → pick b (x ∷ keyed key (xs ++ ys)) (keyed key (xs ++ ys)) ≡ pick b (x ∷ keyed key xs) (keyed key xs) ++ keyed key ys
+    by-key true e = ap (λ (l : List Row). x ∷ l) e
+    by-key false e = e
+
+keyed-none : (key : ℕ) (rs : List Row) → All (λ (r : Row). ofKey key r ≡ false) rs → keyed key rs ≡ []
+unfolding keyed
+keyed-none key [] h = refl
+keyed-none key (r ∷ rs) h = rw (h .0) (keyed-none key rs (h .1))
+
+keyed-is : (key : ℕ) (rs : List Row) → keyed key rs ≡ only (ofKey key) rs
+unfolding keyed
+keyed-is key [] = refl
+keyed-is key (r ∷ rs) = rw (keyed-is key rs)
+
+module _ (s : List ℕ) (root used : ℕ) (t : Shape) (f : WellFormed (view s) root used t) where
+  key-rows : (key : ℕ) → rowsAlong (Which.Key key) used (leafOf key t) s ≡ ok (only (ofKey key) (chain t))
+  unfolding rowsAlong keyed
+  key-rows key =
+      walk-key (lookRows (Which.Key key)) key step says skips s root used t f []
+      ∙ ap (λ (rs : List Row). ok rs)
+      (gather-chain step s used (λ a rs. a ++ keyed key rs) (λ a p pg e j. refl) append-nil joins t (at-leaves s root used t f (locs t top) (locs-plug t top)) []
+      ∙ keyed-is key (chain t))
+    where
+      step : List Row → ℕ → List ℕ → List Row
+      step a p pg = a ++ keyed key (rows pg)
+
+      says : (a : List Row) (p : ℕ) (pg : List ℕ) (e : ℕ) → judgeLeaf p pg ≡ Judged.Ok e
+          → lookRows (Which.Key key) a p pg ≡ pick (larger key (rows pg)) (stop (step a p pg)) (go (step a p pg))
+      says a p pg e j = rw (j, larger-is key pg)
+
+      skips : (a : List Row) (p : ℕ) (pg : List ℕ) (e : ℕ) → judgeLeaf p pg ≡ Judged.Ok e → All (λ (r : Row). ofKey key r ≡ false) (rows pg) → step a p pg ≡ a
+      skips a p pg e j o = ap (λ (l : List Row). a ++ l) (keyed-none key (rows pg) o) ∙ append-nil a
+
+      joins : (a xs ys : List Row) → a ++ keyed key (xs ++ ys) ≡ (a ++ keyed key xs) ++ keyed key ys
+      joins a xs ys = ap (λ (l : List Row). a ++ l) (keyed-app key xs ys) ∙ sym (append-assoc a (keyed key xs) (keyed key ys))
+
+  -- every look that takes all of a leaf's rows
+  whole : (look : List Row → ℕ → List ℕ → Seen (List Row))
+      → ((a : List Row) (p : ℕ) (pg : List ℕ) (e : ℕ) → judgeLeaf p pg ≡ Judged.Ok e → look a p pg ≡ go (a ++ rows pg))
+      → along look used used [] (first t) s ≡ ok (chain t)
+  whole look says =
+      walk-all look (λ a p pg. a ++ rows pg) says s root used t f []
+      ∙ ap (λ (rs : List Row). ok rs)
+      (gather-chain (λ a p pg. a ++ rows pg) s used (λ a rs. a ++ rs) (λ a p pg e j. refl) append-nil (λ a xs ys. sym (append-assoc a xs ys))
+      t (at-leaves s root used t f (locs t top) (locs-plug t top)) [])
+
+  all-rows : rowsAlong Which.All used (first t) s ≡ ok (chain t)
+  unfolding rowsAlong
+  all-rows = whole (lookRows Which.All) (λ a p pg e j. rw j)
+
+  chain-rows : chainRows used (first t) s ≡ ok (chain t)
+  unfolding chainRows
+  chain-rows = whole lookAll (λ a p pg e j. rw j)
+
+-- ---- the calls
+
+module _ (g : Grown) (t : Shape) (tree : TreeIn g t) where
+  tells-find : (key xmax : ℕ) (active : List ℕ) (cur : Current) (ids states : List ℕ) → goodActive active ≡ true → goodStatuses ids states ≡ true
+      → findVisibleCall (g .pool) (g .state) key xmax active cur ids states .number
+      ≡ onBest 8 (λ y. 0) (best (seenBy (lookup ids states) active xmax cur) key (chain t))
+  unfolding findVisibleCall
+  tells-find key xmax active cur ids states a s =
+      let b = found g t tree key xmax active cur ids states in
+      rw (looks g t tree key xmax active cur ids states a s) (looked-number (g .pool) (b .found) ∙ ap (onBest 8 (λ y. 0)) (b .row))
+
+  tells-conflict : (key seen xmax : ℕ) (active : List ℕ) (cur : Current) → goodActive active ≡ true
+      → conflictCall (g .pool) (g .state) key seen xmax active cur
+      ≡ done (someOf (λ x. ofKey key x && conflicting active xmax cur seen (x .creator) (x .stamp)) (chain t))
+  unfolding conflictCall
+  tells-conflict key seen xmax active cur a =
+      rw (tree .good, a, test-is false (lookup [] []) active xmax cur seen key (g .pool) (g .state .root) (g .state .used) t (tree .formed))
+      (ap (λ (b : Bool). done b) (sym (some-is (meets false (lookup [] []) active xmax cur seen key) (chain t))))
+
+  tells-versions : (key : ℕ) (out : List ℕ) → versionsOfCall (g .pool) (g .state) key out ≡ listing (records (only (ofKey key) (chain t))) out
+  unfolding versionsOfCall listRun listTree
+  tells-versions key out =
+      rw (
+        tree .good,
+        descend-search (g .pool) (g .state .root) (g .state .used) t (tree .formed) key,
+        key-rows (g .pool) (g .state .root) (g .state .used) t (tree .formed) key,
+      )
+
+  tells-all : (out : List ℕ) → allVersionsCall (g .pool) (g .state) out ≡ listing (records (chain t)) out
+  unfolding allVersionsCall listRun listTree
+  tells-all out =
+      rw (
+        tree .good,
+        descend-first (g .pool) (g .state .root) (g .state .used) t (tree .formed),
+        all-rows (g .pool) (g .state .root) (g .state .used) t (tree .formed),
+      )
+
+  tells-scan : (xmax : ℕ) (active : List ℕ) (cur : Current) (ids states out : List ℕ) → goodActive active ≡ true → goodStatuses ids states ≡ true
+      → scanVisibleCall (g .pool) (g .state) xmax active cur ids states out ≡ listing (records (scanRows (lookup ids states) active xmax cur (chain t))) out
+  unfolding scanVisibleCall scanRun scanTree
+  tells-scan xmax active cur ids states out a s =
+      rw (
+        tree .good,
+        a,
+        s,
+        descend-first (g .pool) (g .state .root) (g .state .used) t (tree .formed),
+        chain-rows (g .pool) (g .state .root) (g .state .used) t (tree .formed),
+      )
+
+  tells-numbers : (out : List ℕ) → pageNumbersCall (g .pool) (g .state) out ≡ listing (numberRecords (numbersIn t)) out
+  unfolding pageNumbersCall numbersRun numbersTree
+  tells-numbers out = rw (tree .good, numbers-are (g .pool) (g .state .root) (g .state .used) t (tree .formed))
+
+pub reads-tell : ReadsTell
+reads-tell g t tree =
+    record {
+      find = tells-find g t tree;
+      conflict = tells-conflict g t tree;
+      versions-of = tells-versions g t tree;
+      all-versions = tells-all g t tree;
+      scan-visible = tells-scan g t tree;
+      page-numbers = tells-numbers g t tree;
+    }

@@ -1,0 +1,55 @@
+-- Document 01, section 8: "The P cases form one list, and a single theorem about the rules above covers it".
+use mathlib.Core.Path.{_≡_}
+use mathlib.Core.Bool.{true}
+use mathlib.Core.List.{List}
+use Prim.Native.Nat.{ℕ}
+use lib.ListN.{length}
+use Rattle.page.specs.Pool.{goodPool}
+use Rattle.page.specs.declared.pool.State.{State}
+use Rattle.row.specs.declared.Stamp.{Stamp}
+use Rattle.row.specs.declared.Pointer.{Pointer}
+use Rattle.row.specs.Write.{cellSize}
+use Rattle.mvcc.specs.Lists.{goodStatuses}
+use Rattle.mvcc.specs.Facts.{RulesHold}
+use Rattle.mvcc.specs.declared.Current.{Current}
+use Rattle.leaf.specs.CutFacts.{CutCases}
+use Rattle.leaf.specs.FindFacts.{LookupChooses}
+use Rattle.branch.specs.Facts.{EntryEnters, HalvesDivide}
+use Rattle.tree.specs.Create.{rooted}
+use Rattle.grows.specs.Rooted.{PinnedRoot, MovedRoot}
+use Rattle.insert.specs.Ready.{newAt, versionAt}
+use Rattle.reads.specs.Answer.{done, refused, ended}
+use Rattle.reads.specs.Create.{hasPage, createAfter}
+use Rattle.reads.specs.Facts.{CreateIsEmpty, TieToFirst}
+use Rattle.writes.specs.Insert.{versionReady, insertVersionCall, insertReady, insertCall}
+use Rattle.cleans.specs.Vacuum.{vacuumCall}
+
+-- P2: data of 4051 passes: it is not what an insertion is refused for; 4052 is BadData
+pub record DataLimit : Type 0 where
+  pub passes : (s : List ℕ) (st : State) (key : ℕ) (cur : Current) (ids states : List ℕ) → goodPool s st ≡ true → goodStatuses ids states ≡ true
+      → insertReady s st key cur ids states 4051 ≡ newAt s st key cur ids states (cellSize Stamp.Absent Pointer.Absent 4051)
+  pub version-passes : (s : List ℕ) (st : State) (key creator : ℕ) (stamp : Stamp) (pointer : Pointer) → goodPool s st ≡ true
+      → versionReady s st key creator stamp pointer 4051 ≡ versionAt s st key creator (cellSize stamp pointer 4051)
+  pub refused-data : (s : List ℕ) (st : State) (key : ℕ) (body : List ℕ) (cur : Current) (ids states : List ℕ) → goodPool s st ≡ true
+      → goodStatuses ids states ≡ true → length body ≡ 4052 → insertCall s st key body cur ids states ≡ ended (refused 5) s
+  pub version-refused : (s : List ℕ) (st : State) (key creator : ℕ) (stamp : Stamp) (pointer : Pointer) (body : List ℕ) → goodPool s st ≡ true
+      → length body ≡ 4052 → insertVersionCall s st key creator stamp pointer body ≡ ended (refused 5) s
+
+pub record Cases : Type 0 where
+  -- P1: lookup Absent, listing 0 bytes; vacuum 0
+  pub p1 : CreateIsEmpty
+  pub p1-vacuum : (s : List ℕ) (st : State) (bound : ℕ) (ids states : List ℕ) → goodPool s st ≡ true → hasPage s st ≡ true → goodStatuses ids states ≡ true
+      → vacuumCall (createAfter s st) (rooted s st) bound ids states ≡ ended (done 0) (createAfter s st)
+  pub p2 : DataLimit
+  -- P3: 510 keys fit, 511 do not
+  pub p3-fits : EntryEnters
+  pub p3-divides : HalvesDivide
+  -- P4, P5, P6
+  pub p4-p5-p6 : CutCases
+  -- P7, P8
+  pub p7-p8 : RulesHold
+  -- P9: lookup last, listing first
+  pub p9-lookup : LookupChooses
+  pub p9-listing : TieToFirst
+  pub p10 : PinnedRoot
+  pub moved : MovedRoot

@@ -1,0 +1,21 @@
+-- A call on a tree changes that tree's pages and pages that it takes, and no other page in use.
+use mathlib.Core.Path.{_≡_}
+use mathlib.Core.Bool.{false}
+use mathlib.Core.List.{List}
+use Prim.Native.Nat.{ℕ, _<_}
+use Rattle.page.specs.Page.{page}
+use Rattle.mvcc.specs.Lists.{mem}
+use Rattle.grow.specs.Grow.{Grown}
+use Rattle.cleans.specs.Vacuum.{vacuumCall}
+use Rattle.shapes.specs.Shape.{Shape, pages}
+use Rattle.meaning.specs.Trees.{TreeIn}
+use Rattle.meaning.specs.Change.{Change, Fits, run}
+
+-- every page in use that is none of the tree's is as it was
+abbrev pub Elsewhere : Shape → (used : ℕ) → (before after : List ℕ) → Type 0
+Elsewhere t used before after = (x : ℕ) → x < used → mem x (pages t) ≡ false → page x after ≡ page x before
+
+pub record Framed : Type 0 where
+  pub changes : (a : Change) (g : Grown) (t : Shape) → TreeIn g t → Fits a → Elsewhere t (g .state .used) (g .pool) (run a g .after .pool)
+  pub vacuums : (g : Grown) (t : Shape) (bound : ℕ) (ids states : List ℕ) → TreeIn g t
+      → Elsewhere t (g .state .used) (g .pool) (vacuumCall (g .pool) (g .state) bound ids states .pool)

@@ -1,0 +1,106 @@
+-- What a change means (document 01, sections 4 to 6), on the versions alone: a list of rows in which versions of one key and
+-- creator stand as they arrived; where else a row stands plays no part.
+use mathlib.Core.Bool.{Bool, false, not, _&&_, _||_}
+use mathlib.Core.List.{List, [], _∷_, _++_}
+use mathlib.Core.Option.{Option, none, some}
+use Prim.Native.Nat.{ℕ}
+use lib.Dec.{leb, eqb}
+use lib.ListN.{length}
+use Rattle.store.specs.Pick.{pick}
+use Rattle.row.specs.declared.Stamp.{Stamp}
+use Rattle.row.specs.declared.Pointer.{Pointer}
+use Rattle.mvcc.specs.Lists.{lookup, goodActive, goodStatuses}
+use Rattle.mvcc.specs.Rules.{visible, claimConflicting, plainXmax, plainActive}
+use Rattle.mvcc.specs.declared.Current.{Current}
+use Rattle.leaf.specs.Rows.{Row}
+use Rattle.edits.specs.EditFacts.{stampRow}
+use Rattle.insert.specs.Ready.{creatorOf}
+use Rattle.shapes.specs.Versions.{only, ofKey, ofVersion, best}
+use Rattle.meaning.specs.Change.{Change, inserts, insertsVersion, stamps, claims, removes}
+
+pub record Meant : Type 0 where
+  pub number : ℕ
+  pub dropped : ℕ
+  pub rows : List Row
+
+-- refused, and the versions stay; done, with these versions
+abbrev pub refusedAs : ℕ → List Row → Meant
+refusedAs n l = record { number = n; dropped = 0; rows = l }
+
+abbrev pub doneWith : List Row → Meant
+doneWith l = refusedAs 0 l
+
+-- the snapshot sees the row
+abbrev pub seenBy : (ℕ → ℕ) → List ℕ → ℕ → Current → Row → Bool
+seenBy st active xmax cur r = visible st active xmax cur (r .creator) (r .stamp)
+
+-- "A new version goes after equals of its key and creator"
+abbrev pub arriving : Row → List Row → List Row
+arriving r l = l ++ (r ∷ [])
+
+-- some row is accepted; the last one that is accepted, changed by f
+abbrev pub someOf : (Row → Bool) → List Row → Bool
+someOf v [] = false
+someOf v (x ∷ xs) = v x || someOf v xs
+
+abbrev pub changeLast : (Row → Bool) → (Row → Row) → List Row → List Row
+changeLast v f [] = []
+changeLast v f (x ∷ xs) = pick (someOf v xs) (x ∷ changeLast v f xs) (pick (v x) (f x ∷ xs) (x ∷ xs))
+
+-- the chosen version, if any, gets the stamp of d: the last of its key and creator that is seen
+abbrev pub onBest : {A : Type 0} → A → (Row → A) → Option Row → A
+onBest absent found none = absent
+onBest absent found (some y) = found y
+
+abbrev pub stamped : (Row → Bool) → (key d : ℕ) → Row → List Row → List Row
+stamped v key d y l = changeLast (λ x. ofVersion key (y .creator) x && v x) (stampRow d) l
+
+-- "Conflict against a seen creator number holds if some version of the key .."
+abbrev pub conflictIn : (ℕ → ℕ) → List ℕ → ℕ → Current → (seen key : ℕ) → List Row → Bool
+conflictIn st active xmax cur seen key l = someOf (λ x. ofKey key x && claimConflicting st active xmax cur seen (x .creator) (x .stamp)) l
+
+abbrev pub liveRow : (key creator : ℕ) → List ℕ → Row
+liveRow key creator body = record { key = key; creator = creator; stamp = Stamp.Absent; pointer = Pointer.Absent; body = body }
+
+-- ---- the five calls; refusals in section 6's order
+
+-- 4, 5, 6
+unfoldable pub meantInsert : (key : ℕ) → List ℕ → Current → (ids states : List ℕ) → List Row → Meant
+meantInsert key body cur ids states l =
+    pick (goodStatuses ids states)
+    (pick (leb (length body) 4051)
+    (onBest (doneWith (arriving (liveRow key (creatorOf cur) body) l)) (λ y. refusedAs 6 l) (best (seenBy (lookup ids states) plainActive plainXmax cur) key l))
+    (refusedAs 5 l))
+    (refusedAs 4 l)
+
+-- 5
+unfoldable pub meantVersion : Row → List Row → Meant
+meantVersion r l = pick (leb (length (r .body)) 4051) (doneWith (arriving r l)) (refusedAs 5 l)
+
+-- 3, 4, 8; `more` is what a claim asks of the chosen version before it is stamped
+unfoldable pub meantMark : (more : Row → Bool) → (key d xmax : ℕ) → List ℕ → Current → (ids states : List ℕ) → List Row → Meant
+meantMark more key d xmax active cur ids states l =
+    pick (goodActive active)
+    (pick (goodStatuses ids states)
+    (onBest (refusedAs 8 l) (λ y. pick (more y) (refusedAs 7 l) (doneWith (stamped (seenBy (lookup ids states) active xmax cur) key d y l)))
+    (best (seenBy (lookup ids states) active xmax cur) key l))
+    (refusedAs 4 l))
+    (refusedAs 3 l)
+
+-- 3, 4, 8, 7: "claim with no current, or current 0" is 3
+unfoldable pub meantClaim : (key xmax : ℕ) → List ℕ → Current → (ids states : List ℕ) → List Row → Meant
+meantClaim key xmax active cur ids states l =
+    pick (eqb (creatorOf cur) 0) (refusedAs 3 l)
+    (meantMark (λ y. conflictIn (lookup ids states) active xmax cur (y .creator) key l) key (creatorOf cur) xmax active cur ids states l)
+
+-- "Remove drops every version of its key"
+unfoldable pub meantRemove : (key : ℕ) → List Row → Meant
+meantRemove key l = record { number = 0; dropped = length (only (ofKey key) l); rows = only (λ x. not (ofKey key x)) l }
+
+unfoldable pub meant : Change → List Row → Meant
+meant (inserts key body cur ids states) l = meantInsert key body cur ids states l
+meant (insertsVersion key creator stamp pointer body) l =
+    meantVersion (record { key = key; creator = creator; stamp = stamp; pointer = pointer; body = body }) l
+meant (stamps key d xmax active cur ids states) l = meantMark (λ y. false) key d xmax active cur ids states l
+meant (claims key xmax active cur ids states) l = meantClaim key xmax active cur ids states l
+meant (removes key) l = meantRemove key l

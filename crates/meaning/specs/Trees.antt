@@ -1,0 +1,21 @@
+-- A well-formed tree in a pool (document 01, sections 3 and 6), as a fact about the pool's pages and not as check's answer.
+use mathlib.Core.Path.{_≡_}
+use mathlib.Core.Bool.{true}
+use Rattle.store.specs.Le.{AreBytes}
+use Rattle.page.specs.Pool.{goodPool}
+use Rattle.grow.specs.Grow.{Grown}
+use Rattle.shapes.specs.Shape.{Shape, WellFormed}
+use Rattle.shapes.specs.View.{view}
+use Rattle.reads.specs.Answer.{done}
+use Rattle.reads.specs.Check.{checkCall}
+
+-- the pool is bytes and no BadPool, and its pages hold the tree t
+pub record TreeIn (g : Grown) (t : Shape) : Type 0 where
+  pub bytes : AreBytes (g .pool)
+  pub good : goodPool (g .pool) (g .state) ≡ true
+  pub formed : WellFormed (view (g .pool)) (g .state .root) (g .state .used) t
+
+-- "Check answers yes exactly for this"
+pub record CheckIs : Type 0 where
+  pub yes : (g : Grown) (t : Shape) → TreeIn g t → checkCall (g .pool) (g .state) ≡ done true
+  pub only : (g : Grown) → AreBytes (g .pool) → checkCall (g .pool) (g .state) ≡ done true → (t : Shape) × TreeIn g t

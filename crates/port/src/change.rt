@@ -1,0 +1,237 @@
+// The writing calls as the booking server makes them (document 01, sections 6 and 9): the new state, or the versions dropped,
+// comes back as words at the start of the lent array. Each call is the one of `writes`, `claims` or `cleans` that it names.
+ghost use mathlib.Core.Path.{_≡_};
+ghost use lib.ListN.{length};
+ghost use Rattle.page.specs.Key.{rankOf};
+ghost use Rattle.writes.specs.Answer.{ofStated};
+ghost use Rattle.writes.specs.Insert.{insertCall, insertVersionCall};
+ghost use Rattle.claims.specs.Mark.{markCall, markPlainCall, deleteCall};
+ghost use Rattle.claims.specs.Claim.{claimCall};
+ghost use Rattle.cleans.specs.Answer.{ofDropped};
+ghost use Rattle.cleans.specs.Remove.{removeCall};
+ghost use Rattle.cleans.specs.Vacuum.{vacuumCall};
+ghost use Rattle.port.specs.Words.{stateOf, currentOf, stampOf, pointerOf, stateWords, countWords, called, given, calledPool, givenPool};
+use crate::current_of;
+use cleans::Dropped;
+use page::pool::State;
+use row::Pointer;
+use row::Stamp;
+use writes::Stated;
+
+fn stamp_of(has: bool, tx: u64) -> Stamp
+    ensures { λ r. ⌜ r ≡ stampOf has tx ⌝ }
+{
+    if has {
+        return Stamp::By(tx);
+    }
+    Stamp::Absent
+}
+
+fn pointer_of(has: bool, page: u32, slot: u16) -> Pointer
+    ensures { λ r. ⌜ r ≡ pointerOf has page slot ⌝ }
+{
+    if has {
+        return Pointer::At { page, slot };
+    }
+    Pointer::Absent
+}
+
+fn give_stated(answer: &mut [u64], r: Stated) -> u8
+    requires { ⌜ length (now answer) ≡ 8 ⌝ }
+    ensures { λ n. ⌜ called n (now (answer .exit)) ≡ given stateWords (ofStated r) (now (answer .entry)) ⌝ }
+{
+    match r {
+        Stated::Refused(n) => n,
+        Stated::Done(st) => {
+            answer[0] = st.root as u64;
+            answer[1] = st.used as u64;
+            0
+        }
+    }
+}
+
+fn give_dropped(answer: &mut [u64], r: Dropped) -> u8
+    requires { ⌜ length (now answer) ≡ 8 ⌝ }
+    ensures { λ n. ⌜ called n (now (answer .exit)) ≡ given countWords (ofDropped r) (now (answer .entry)) ⌝ }
+{
+    match r {
+        Dropped::Refused(n) => n,
+        Dropped::Done(count) => {
+            answer[0] = count as u64;
+            0
+        }
+    }
+}
+
+#[no_mangle]
+pub extern "C" fn erbulonge_insert(
+    pool: &mut [u8],
+    root: u32,
+    used: u32,
+    key: i32,
+    body: &[u8],
+    has_current: bool,
+    current: u64,
+    ids: &[u64],
+    states: &[u8],
+    answer: &mut [u64; 8],
+) -> u8
+    ensures { λ n. ⌜ calledPool n (now (answer .exit)) (now (pool .exit)) ≡ givenPool stateWords (insertCall (now (pool .entry)) (stateOf root used) (rankOf key) (now (body .entry)) (currentOf «has_current» current) (now (ids .entry)) (now (states .entry))) (now (answer .entry)) ⌝ }
+{
+    let st = State { root, used };
+    let cur = current_of(has_current, current);
+    give_stated(
+        answer,
+        writes::insert(pool, st, key, body, cur, ids, states),
+    )
+}
+
+#[no_mangle]
+pub extern "C" fn erbulonge_insert_version(
+    pool: &mut [u8],
+    root: u32,
+    used: u32,
+    key: i32,
+    creator: u64,
+    has_deleter: bool,
+    deleter: u64,
+    has_pointer: bool,
+    page: u32,
+    slot: u16,
+    body: &[u8],
+    answer: &mut [u64; 8],
+) -> u8
+    ensures { λ n. ⌜ calledPool n (now (answer .exit)) (now (pool .exit)) ≡ givenPool stateWords (insertVersionCall (now (pool .entry)) (stateOf root used) (rankOf key) creator (stampOf «has_deleter» deleter) (pointerOf «has_pointer» page slot) (now (body .entry))) (now (answer .entry)) ⌝ }
+{
+    let st = State { root, used };
+    let stamp = stamp_of(has_deleter, deleter);
+    let pointer = pointer_of(has_pointer, page, slot);
+    give_stated(
+        answer,
+        writes::insert_version(pool, st, key, creator, stamp, pointer, body),
+    )
+}
+
+#[no_mangle]
+pub extern "C" fn erbulonge_mark_deleted_visible(
+    pool: &mut [u8],
+    root: u32,
+    used: u32,
+    key: i32,
+    deleter: u64,
+    xmax: u64,
+    active: &[u64],
+    has_current: bool,
+    current: u64,
+    ids: &[u64],
+    states: &[u8],
+    answer: &mut [u64; 8],
+) -> u8
+    ensures { λ n. ⌜ calledPool n (now (answer .exit)) (now (pool .exit)) ≡ givenPool stateWords (markCall (now (pool .entry)) (stateOf root used) (rankOf key) deleter xmax (now (active .entry)) (currentOf «has_current» current) (now (ids .entry)) (now (states .entry))) (now (answer .entry)) ⌝ }
+{
+    let st = State { root, used };
+    let cur = current_of(has_current, current);
+    give_stated(
+        answer,
+        claims::mark_deleted_visible(pool, st, key, deleter, xmax, active, cur, ids, states),
+    )
+}
+
+#[no_mangle]
+pub extern "C" fn erbulonge_mark_deleted(
+    pool: &mut [u8],
+    root: u32,
+    used: u32,
+    key: i32,
+    deleter: u64,
+    has_current: bool,
+    current: u64,
+    ids: &[u64],
+    states: &[u8],
+    answer: &mut [u64; 8],
+) -> u8
+    ensures { λ n. ⌜ calledPool n (now (answer .exit)) (now (pool .exit)) ≡ givenPool stateWords (markPlainCall (now (pool .entry)) (stateOf root used) (rankOf key) deleter (currentOf «has_current» current) (now (ids .entry)) (now (states .entry))) (now (answer .entry)) ⌝ }
+{
+    let st = State { root, used };
+    let cur = current_of(has_current, current);
+    give_stated(
+        answer,
+        claims::mark_deleted(pool, st, key, deleter, cur, ids, states),
+    )
+}
+
+#[no_mangle]
+pub extern "C" fn erbulonge_delete(
+    pool: &mut [u8],
+    root: u32,
+    used: u32,
+    key: i32,
+    has_current: bool,
+    current: u64,
+    ids: &[u64],
+    states: &[u8],
+    answer: &mut [u64; 8],
+) -> u8
+    ensures { λ n. ⌜ calledPool n (now (answer .exit)) (now (pool .exit)) ≡ givenPool stateWords (deleteCall (now (pool .entry)) (stateOf root used) (rankOf key) (currentOf «has_current» current) (now (ids .entry)) (now (states .entry))) (now (answer .entry)) ⌝ }
+{
+    let st = State { root, used };
+    let cur = current_of(has_current, current);
+    give_stated(answer, claims::delete(pool, st, key, cur, ids, states))
+}
+
+#[no_mangle]
+pub extern "C" fn erbulonge_claim(
+    pool: &mut [u8],
+    root: u32,
+    used: u32,
+    key: i32,
+    xmax: u64,
+    active: &[u64],
+    has_current: bool,
+    current: u64,
+    ids: &[u64],
+    states: &[u8],
+    answer: &mut [u64; 8],
+) -> u8
+    ensures { λ n. ⌜ calledPool n (now (answer .exit)) (now (pool .exit)) ≡ givenPool stateWords (claimCall (now (pool .entry)) (stateOf root used) (rankOf key) xmax (now (active .entry)) (currentOf «has_current» current) (now (ids .entry)) (now (states .entry))) (now (answer .entry)) ⌝ }
+{
+    let st = State { root, used };
+    let cur = current_of(has_current, current);
+    give_stated(
+        answer,
+        claims::claim(pool, st, key, xmax, active, cur, ids, states),
+    )
+}
+
+#[no_mangle]
+pub extern "C" fn erbulonge_remove_all_versions(
+    pool: &mut [u8],
+    root: u32,
+    used: u32,
+    key: i32,
+    answer: &mut [u64; 8],
+) -> u8
+    ensures { λ n. ⌜ calledPool n (now (answer .exit)) (now (pool .exit)) ≡ givenPool countWords (removeCall (now (pool .entry)) (stateOf root used) (rankOf key)) (now (answer .entry)) ⌝ }
+{
+    let st = State { root, used };
+    give_dropped(answer, cleans::remove_all_versions(pool, st, key))
+}
+
+#[no_mangle]
+pub extern "C" fn erbulonge_vacuum_deleted_versions(
+    pool: &mut [u8],
+    root: u32,
+    used: u32,
+    bound: u64,
+    ids: &[u64],
+    states: &[u8],
+    answer: &mut [u64; 8],
+) -> u8
+    ensures { λ n. ⌜ calledPool n (now (answer .exit)) (now (pool .exit)) ≡ givenPool countWords (vacuumCall (now (pool .entry)) (stateOf root used) bound (now (ids .entry)) (now (states .entry))) (now (answer .entry)) ⌝ }
+{
+    let st = State { root, used };
+    give_dropped(
+        answer,
+        cleans::vacuum_deleted_versions(pool, st, bound, ids, states),
+    )
+}

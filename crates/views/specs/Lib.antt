@@ -1,0 +1,1 @@
+-- The crate has no definition of its own that a reader has to believe.
