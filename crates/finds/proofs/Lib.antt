@@ -1,3 +1,4 @@
+-- Laws of `finds` for the crates above.
 pub mod Paging
 pub mod Descending
 pub mod Walking

@@ -1,3 +1,4 @@
+-- Laws of `formed` for the crates above.
 pub mod Paging
 pub mod Hanging
 pub mod Formed

@@ -1,3 +1,4 @@
+-- Laws of `mapped` for the crates above.
 pub mod Changing
 pub mod Running
 pub mod Removing

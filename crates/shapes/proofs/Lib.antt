@@ -1,3 +1,4 @@
+-- Laws of `shapes` for the crates above.
 pub mod Workers
 pub mod Contexts
 pub mod Entries
