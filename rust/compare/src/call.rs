@@ -113,23 +113,28 @@ impl Outcome {
     }
 }
 
+/// The snapshot and the status list as our side takes them.
+pub fn snap(s: &Snap) -> Snapshot<'_> {
+    Snapshot {
+        xmax: s.xmax,
+        active: &s.active,
+        current: s.current,
+    }
+}
+
+pub fn statuses(lists: &Lists) -> Statuses<'_> {
+    Statuses {
+        ids: &lists.ids,
+        states: &lists.states,
+    }
+}
+
 /// Our side's outcome.
 pub fn ours(given: &Given, call: &Call) -> Outcome {
     let mut o = Outcome::start(given.room);
     let (pool, st) = (black_box(given.pool), given.state);
     let (out, words) = (&mut o.out, &mut o.words);
-    let lists = Statuses {
-        ids: &given.lists.ids,
-        states: &given.lists.states,
-    };
-    let snap = |s| -> Snapshot<'_> {
-        let s: &Snap = s;
-        Snapshot {
-            xmax: s.xmax,
-            active: &s.active,
-            current: s.current,
-        }
-    };
+    let lists = statuses(given.lists);
     o.number = match call {
         Call::Check => calls::check(pool, st, words),
         Call::Lookup(k, s) => calls::find_visible(pool, st, *k, &snap(s), &lists, words),

@@ -1,7 +1,7 @@
 //! One writing call, and what comes of it on our side.
-use crate::call::{Given, start_words};
+use crate::call::{Given, snap, start_words, statuses};
 use erbulonge::calls::{self, Words};
-use erbulonge::{NewVersion, Snapshot, State, Statuses};
+use erbulonge::{NewVersion, State};
 use std::hint::black_box;
 use wire::{Op, PAGE, Snap};
 
@@ -87,18 +87,7 @@ pub fn ours(given: &Given, op: &Op) -> Changed {
     let mut c = Changed::start(given.pool);
     let (pool, words) = (black_box(&mut c.pool[..]), &mut c.words);
     let (st, current) = (given.state, given.lists.current);
-    let lists = &Statuses {
-        ids: &given.lists.ids,
-        states: &given.lists.states,
-    };
-    let snap = |s| -> Snapshot<'_> {
-        let s: &Snap = s;
-        Snapshot {
-            xmax: s.xmax,
-            active: &s.active,
-            current: s.current,
-        }
-    };
+    let lists = &statuses(given.lists);
     c.number = match op {
         Op::Insert(k, data) => calls::insert(pool, st, *k, data, current, lists, words),
         Op::InsertVersion(v) => {

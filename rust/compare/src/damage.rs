@@ -2,7 +2,7 @@
 //! number of its own. A reading call must leave pool, words and (unless Done) output
 //! as they were. A writing call must leave pool and words as they were unless Done,
 //! and then all but the pages in use; the rules say what those hold.
-use crate::call::{Given, Lists};
+use crate::call::Lists;
 use crate::pages::{self, Page};
 use crate::shapes::{self, Built};
 use crate::tally::Tally;
@@ -230,12 +230,7 @@ fn ask(tally: &mut Tally, rng: &mut Rng, b: &Built) {
         lists.states.push(1);
     }
     for call in draw::calls(rng, &b.keys) {
-        let mut given = Given {
-            pool: &b.pool,
-            state: b.state,
-            lists: &lists,
-            room: 0,
-        };
+        let mut given = b.given(&lists);
         let length = rule::length(&given, &call);
         given.room = draw::pick(rng, &[length, length + 9, length.saturating_sub(1), 0]);
         tally.by_rule(&given, &call);
@@ -245,19 +240,13 @@ fn ask(tally: &mut Tally, rng: &mut Rng, b: &Built) {
 /// Every writing call on a damaged tree, with a few pages left or none.
 fn ask_changes(tally: &mut Tally, rng: &mut Rng, b: &mut Built) {
     tally.pool();
-    let spare = draw::pick(rng, &[0, 1, 2, 3, 4, 5, 6]);
-    b.pool.resize(b.pool.len() + spare * PAGE, 0xEE);
+    b.add_spare(rng);
     let mut lists: Lists = draw::lists(rng);
     if rng.chance(1, 40) {
         lists.states.push(1);
     }
     for op in draw::changes(rng, &b.keys) {
-        let given = Given {
-            pool: &b.pool,
-            state: b.state,
-            lists: &lists,
-            room: 0,
-        };
+        let given = b.given(&lists);
         tally.change_by_rule(&given, &op);
     }
 }

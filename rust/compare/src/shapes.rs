@@ -1,6 +1,7 @@
 //! Well-formed trees of any shape, built page by page: one to four levels,
 //! empty leaves, equal keys on both sides of a separator, pages in any order,
 //! and random bytes wherever none is judged.
+use crate::call::{Given, Lists};
 use crate::draw;
 use crate::pages::{self, Page};
 use erbulonge::State;
@@ -11,6 +12,24 @@ pub struct Built {
     pub pool: Vec<u8>,
     pub state: State,
     pub keys: Vec<i32>,
+}
+
+impl Built {
+    /// A few pages more, or none, that are not in use.
+    pub fn add_spare(&mut self, rng: &mut Rng) {
+        let spare = draw::pick(rng, &[0, 1, 2, 3, 4, 5, 6]);
+        self.pool.resize(self.pool.len() + spare * PAGE, 0xEE);
+    }
+
+    /// What a call on the tree is given, with no output.
+    pub fn given<'a>(&'a self, lists: &'a Lists) -> Given<'a> {
+        Given {
+            pool: &self.pool,
+            state: self.state,
+            lists,
+            room: 0,
+        }
+    }
 }
 
 enum Node {

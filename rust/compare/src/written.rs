@@ -212,16 +212,10 @@ fn agrees(got: &Changed, op: &Op, given: &Given, oracle: &Oracle, answer: &Ans) 
 /// Each call on a tree, by itself.
 fn ask(tally: &mut Tally, rng: &mut Rng, b: &mut Built) {
     tally.pool();
-    let spare = draw::pick(rng, &[0, 1, 2, 3, 4, 5, 6]);
-    b.pool.resize(b.pool.len() + spare * PAGE, 0xEE);
+    b.add_spare(rng);
     let lists = draw::lists(rng);
     for op in draw::changes(rng, &b.keys) {
-        let given = Given {
-            pool: &b.pool,
-            state: b.state,
-            lists: &lists,
-            room: 0,
-        };
+        let given = b.given(&lists);
         let got = tally.change_by_rule(&given, &op);
         let mut oracle = Oracle::from_bytes(&b.pool, b.state.used, b.state.root);
         tally.levels(levels(&oracle));
