@@ -1,5 +1,5 @@
 // One leaf page (document 01, sections 2, 3 and 5; btree.rs): its judgement. Module find looks for something in it, module
-// place says where a new cell goes and where a leaf is cut. Crate `edits` changes a page.
+// place says where a new cell goes and where a leaf is cut. Crate `leaf_edit` changes a page.
 pub mod find;
 pub mod place;
 

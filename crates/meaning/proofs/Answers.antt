@@ -1,11 +1,11 @@
 -- Number and value determine the answer of a writing call (document 01, section 9). Assumes nothing.
 use mathlib.Core.Path.{_≡_, refl}
-use Rattle.reads.specs.AnswerFacts.{OneAnswer}
-use Rattle.reads.proofs.Answers.{back, one-answer}
-use Rattle.writes.specs.Answer.{ofStated}
-use Rattle.writes.specs.declared.Stated.{Stated}
-use Rattle.cleans.specs.Answer.{ofDropped}
-use Rattle.cleans.specs.declared.Dropped.{Dropped}
+use Rattle.call_read.specs.AnswerFacts.{OneAnswer}
+use Rattle.call_read.proofs.Answers.{back, one-answer}
+use Rattle.call_insert.specs.Answer.{ofStated}
+use Rattle.call_insert.specs.declared.Stated.{Stated}
+use Rattle.call_clean.specs.Answer.{ofDropped}
+use Rattle.call_clean.specs.declared.Dropped.{Dropped}
 
 pub one-stated : OneAnswer ofStated
 one-stated = one-answer ofStated Stated.Done Stated.Refused same

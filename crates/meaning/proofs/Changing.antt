@@ -22,23 +22,23 @@ use Rattle.leaf.specs.Rows.{Row, RowFits, rowOf, rowSize, rowBytes}
 use Rattle.leaf.specs.declared.find.Best.{Best}
 use Rattle.tree.specs.declared.ChainBest.{ChainBest}
 use Rattle.tree.specs.declared.ChainTest.{ChainTest}
-use Rattle.grow.specs.Grow.{Grown, grown}
-use Rattle.room.specs.Room.{noFault}
-use Rattle.insert.specs.Insert.{insertedAt}
-use Rattle.insert.specs.Ready.{creatorOf, ready, notReady, onReady, readyByRoom}
-use Rattle.insert.specs.declared.ready.Ready.{Ready}
-use Rattle.stamp.specs.Target.{targetOf}
-use Rattle.stamp.specs.Ready.{marking, notMarking, markingByRoom, markingAt}
-use Rattle.stamp.specs.declared.ready.Marking.{Marking}
-use Rattle.reads.specs.Find.{plain, lookedBest, findVisibleRun}
-use Rattle.reads.specs.declared.Looked.{Looked}
-use Rattle.writes.specs.Answer.{changedTo, stays, hideEnd}
-use Rattle.writes.specs.Insert.{insertVersionRun, insertVersionCall, insertRun, insertCall}
-use Rattle.claims.specs.Mark.{onLooked, conflictTold, markReady, marked, markRun, markCall}
-use Rattle.claims.specs.Claim.{claimReady, claimRun, claimCall}
-use Rattle.shapes.specs.Shape.{Shape, chain}
-use Rattle.shapes.specs.Versions.{SameVersions, arrivals, best}
-use Rattle.finds.proofs.Looking.{rowIn, Standing, StandsBy, BestIs, test-is}
+use Rattle.tree_grow.specs.Grow.{Grown, grown}
+use Rattle.tree_room.specs.Room.{noFault}
+use Rattle.tree_insert.specs.Insert.{insertedAt}
+use Rattle.tree_insert.specs.Ready.{creatorOf, ready, notReady, onReady, readyByRoom}
+use Rattle.tree_insert.specs.declared.ready.Ready.{Ready}
+use Rattle.tree_stamp.specs.Target.{targetOf}
+use Rattle.tree_stamp.specs.Ready.{marking, notMarking, markingByRoom, markingAt}
+use Rattle.tree_stamp.specs.declared.ready.Marking.{Marking}
+use Rattle.call_read.specs.Find.{plain, lookedBest, findVisibleRun}
+use Rattle.call_read.specs.declared.Looked.{Looked}
+use Rattle.call_insert.specs.Answer.{changedTo, stays, hideEnd}
+use Rattle.call_insert.specs.Insert.{insertVersionRun, insertVersionCall, insertRun, insertCall}
+use Rattle.call_stamp.specs.Mark.{onLooked, conflictTold, markReady, marked, markRun, markCall}
+use Rattle.call_stamp.specs.Claim.{claimReady, claimRun, claimCall}
+use Rattle.theory_tree.specs.Shape.{Shape, chain}
+use Rattle.theory_tree.specs.Versions.{SameVersions, arrivals, best}
+use Rattle.theory_walks.proofs.Looking.{rowIn, Standing, StandsBy, BestIs, test-is}
 use Rattle.meaning.specs.Trees.{TreeIn}
 use Rattle.meaning.specs.Change.{Change, inserts, insertsVersion, stamps, claims, removes, Fits, Ran, ranTo, run, Roomy}
 use Rattle.meaning.specs.Meant.{Meant, refusedAs, doneWith, seenBy, arriving, onBest, stamped, conflictIn, liveRow, meantInsert, meantVersion, meantMark, meantClaim, meant}

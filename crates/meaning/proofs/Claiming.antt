@@ -9,10 +9,10 @@ use Rattle.page.specs.declared.pool.State.{State}
 use Rattle.mvcc.specs.Lists.{mem}
 use Rattle.mvcc.specs.declared.Current.{Current}
 use Rattle.leaf.specs.Rows.{Row}
-use Rattle.grow.specs.Grow.{Grown}
-use Rattle.reads.specs.Answer.{Outcome, Value, nothing, Ended, ended, refused}
-use Rattle.claims.specs.Claim.{claimCall}
-use Rattle.shapes.specs.Shape.{Shape, chain}
+use Rattle.tree_grow.specs.Grow.{Grown}
+use Rattle.call_read.specs.Answer.{Outcome, Value, nothing, Ended, ended, refused}
+use Rattle.call_stamp.specs.Claim.{claimCall}
+use Rattle.theory_tree.specs.Shape.{Shape, chain}
 use Rattle.meaning.specs.Trees.{TreeIn}
 use Rattle.meaning.specs.Change.{Change, claims, Fits, Ran, run, Roomy}
 use Rattle.meaning.specs.Meant.{meantClaim, meant}

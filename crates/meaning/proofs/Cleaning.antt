@@ -5,11 +5,11 @@ use mathlib.Core.List.{List}
 use Prim.Native.Nat.{ℕ}
 use lib.ListN.{length}
 use Rattle.page.specs.Pool.{goodPool}
-use Rattle.grow.specs.Grow.{Grown}
-use Rattle.reads.specs.Answer.{Outcome, Ended}
-use Rattle.shapes.specs.Shape.{Shape}
-use Rattle.mapped.proofs.Removing.{Removes, remove-does}
-use Rattle.mapped.proofs.Vacuuming.{Vacuums, vacuum-does}
+use Rattle.tree_grow.specs.Grow.{Grown}
+use Rattle.call_read.specs.Answer.{Outcome, Ended}
+use Rattle.theory_tree.specs.Shape.{Shape}
+use Rattle.theory_clean.proofs.Removing.{Removes, remove-does}
+use Rattle.theory_clean.proofs.Vacuuming.{Vacuums, vacuum-does}
 use Rattle.meaning.specs.Trees.{TreeIn}
 use Rattle.meaning.specs.Change.{removes, run}
 use Rattle.meaning.specs.Meant.{meant, meantRemove}

@@ -1,8 +1,8 @@
 -- Demand 3's first half, from what each call does: two calls on different keys, room refusals aside. Assumes nothing.
 use mathlib.Core.Path.{_≡_, sym, _∙_}
-use Rattle.grow.specs.Grow.{Grown}
-use Rattle.shapes.specs.Shape.{Shape, chain}
-use Rattle.shapes.specs.Versions.{SameVersions}
+use Rattle.tree_grow.specs.Grow.{Grown}
+use Rattle.theory_tree.specs.Shape.{Shape, chain}
+use Rattle.theory_tree.specs.Versions.{SameVersions}
 use Rattle.meaning.specs.Trees.{TreeIn}
 use Rattle.meaning.specs.Change.{Change, keyOf, Fits, run, Roomy}
 use Rattle.meaning.specs.Meant.{meant}

@@ -9,7 +9,7 @@ use Rattle.mvcc.specs.Lists.{risingFrom, rising, areStates, mem, lookup, goodAc
 use Rattle.mvcc.specs.Rules.{isCurrent, ofDeleter, finishedWith, finishedBefore, hiding, visible, changedAfter, intruding, conflicting, claimConflicting}
 use Rattle.mvcc.specs.declared.Current.{Current}
 use Rattle.leaf.specs.Rows.{Row}
-use Rattle.shapes.specs.Versions.{best}
+use Rattle.theory_tree.specs.Versions.{best}
 use Rattle.meaning.specs.Change.{Change, claims}
 use Rattle.meaning.specs.Meant.{seenBy, liveRow, meantMark, meantClaim, meant}
 

@@ -7,11 +7,11 @@ use Rattle.store.specs.Part.{zeros}
 use Rattle.page.specs.declared.pool.State.{State}
 use Rattle.mvcc.specs.Lists.{mem}
 use Rattle.tree.specs.Distinct.{distinct}
-use Rattle.grow.specs.Grow.{grown}
-use Rattle.shapes.specs.Pages.{Pages, leafPage, innerPage, withPage}
-use Rattle.shapes.specs.View.{view}
-use Rattle.shapes.specs.Shape.{Shape, leaf, node, pair, pages, Deep, WellFormed}
-use Rattle.formed.proofs.Hanging.{none-twice}
+use Rattle.tree_grow.specs.Grow.{grown}
+use Rattle.theory_tree.specs.Pages.{Pages, leafPage, innerPage, withPage}
+use Rattle.theory_tree.specs.View.{view}
+use Rattle.theory_tree.specs.Shape.{Shape, leaf, node, pair, pages, Deep, WellFormed}
+use Rattle.theory_check.proofs.Hanging.{none-twice}
 use Rattle.meaning.specs.Example.{ManyLevels}
 use Rattle.meaning.proofs.ExistingPools.{rowFor, row-made, inner-made, Pool, blank-pool, with-made, pool-tree}
 

@@ -27,21 +27,21 @@ use Rattle.leaf.proofs.RowFacts.{rows-fill}
 use Rattle.leaf.proofs.Rowing.{endOf, length-rows}
 use Rattle.tree.specs.Climb.{pathOf}
 use Rattle.tree.specs.declared.ChainTest.{ChainTest}
-use Rattle.grow.specs.Grow.{Grown, grown}
-use Rattle.room.specs.Room.{planned, fitting, roomOf}
-use Rattle.stamp.specs.Target.{besideOf, targetOf}
-use Rattle.stamp.specs.Stamp.{longer, bytesStamped, cutStamped, stampPlan}
-use Rattle.stamp.specs.Ready.{markingAt}
-use Rattle.reads.specs.Find.{findVisibleRun}
-use Rattle.reads.specs.declared.Looked.{Looked}
-use Rattle.claims.specs.Mark.{conflictTold, markReady}
-use Rattle.claims.specs.Claim.{claimReady, claimRun, claimCall}
-use Rattle.shapes.specs.Pages.{Pages, leafPage, withPage}
-use Rattle.shapes.specs.View.{view}
-use Rattle.shapes.specs.Shape.{Shape, leaf, WellFormed}
-use Rattle.shapes.proofs.Contexts.{top}
-use Rattle.finds.proofs.Walking.{AtLeaf, at-leaf}
-use Rattle.finds.proofs.Looking.{best-told, test-is}
+use Rattle.tree_grow.specs.Grow.{Grown, grown}
+use Rattle.tree_room.specs.Room.{planned, fitting, roomOf}
+use Rattle.tree_stamp.specs.Target.{besideOf, targetOf}
+use Rattle.tree_stamp.specs.Stamp.{longer, bytesStamped, cutStamped, stampPlan}
+use Rattle.tree_stamp.specs.Ready.{markingAt}
+use Rattle.call_read.specs.Find.{findVisibleRun}
+use Rattle.call_read.specs.declared.Looked.{Looked}
+use Rattle.call_stamp.specs.Mark.{conflictTold, markReady}
+use Rattle.call_stamp.specs.Claim.{claimReady, claimRun, claimCall}
+use Rattle.theory_tree.specs.Pages.{Pages, leafPage, withPage}
+use Rattle.theory_tree.specs.View.{view}
+use Rattle.theory_tree.specs.Shape.{Shape, leaf, WellFormed}
+use Rattle.theory_tree.proofs.Contexts.{top}
+use Rattle.theory_walks.proofs.Walking.{AtLeaf, at-leaf}
+use Rattle.theory_walks.proofs.Looking.{best-told, test-is}
 use Rattle.meaning.specs.Trees.{TreeIn}
 use Rattle.meaning.specs.Change.{run}
 use Rattle.meaning.specs.Example.{TwoClaimants}

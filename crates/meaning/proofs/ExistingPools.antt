@@ -19,16 +19,16 @@ use Rattle.row.specs.declared.Pointer.{Pointer}
 use Rattle.row.specs.declared.Stamp.{Stamp}
 use Rattle.leaf.specs.Rows.{Row, AllFit, rowBytes, rowsBytes, writeRows}
 use Rattle.leaf.proofs.Rowing.{length-rows}
-use Rattle.branch.specs.Edit.{topOf}
-use Rattle.grow.specs.Grow.{grown}
-use Rattle.shapes.specs.Pages.{Page, leafPage, innerPage, Pages, withPage}
-use Rattle.shapes.specs.View.{said, view}
-use Rattle.shapes.specs.Shape.{Shape, WellFormed}
-use Rattle.shapes.proofs.Workers.{setPar}
-use Rattle.views.proofs.Keeping.{bytes-more, bytes-none, bytes-append, bytes-zeros, bytes-field, bytes-part, bytes-pad, bytes-set-page, bytes-cell}
-use Rattle.views.proofs.Viewing.{view-set, said-parent, said-root}
-use Rattle.views.proofs.Rowing.{rows-long, said-rows}
-use Rattle.views.proofs.Entering.{top-long, said-top}
+use Rattle.inner_edit.specs.Edit.{topOf}
+use Rattle.tree_grow.specs.Grow.{grown}
+use Rattle.theory_tree.specs.Pages.{Page, leafPage, innerPage, Pages, withPage}
+use Rattle.theory_tree.specs.View.{said, view}
+use Rattle.theory_tree.specs.Shape.{Shape, WellFormed}
+use Rattle.theory_tree.proofs.Workers.{setPar}
+use Rattle.theory_stores.proofs.Keeping.{bytes-more, bytes-none, bytes-append, bytes-zeros, bytes-field, bytes-part, bytes-pad, bytes-set-page, bytes-cell}
+use Rattle.theory_stores.proofs.Viewing.{view-set, said-parent, said-root}
+use Rattle.theory_stores.proofs.Rowing.{rows-long, said-rows}
+use Rattle.theory_stores.proofs.Entering.{top-long, said-top}
 use Rattle.meaning.specs.Trees.{TreeIn}
 use Rattle.meaning.specs.Meant.{liveRow}
 

@@ -28,41 +28,41 @@ use Rattle.leaf.specs.declared.place.Cut.{Cut}
 use Rattle.tree.specs.Climb.{pathOf}
 use Rattle.tree.specs.declared.ChainBest.{ChainBest}
 use Rattle.tree.specs.declared.ChainTest.{ChainTest}
-use Rattle.grow.specs.Grow.{Grown}
-use Rattle.grow.specs.Plan.{divisionOf}
-use Rattle.room.specs.Room.{noFault, dividing, roomOf}
-use Rattle.room.specs.Up.{dividedUp}
-use Rattle.room.specs.declared.Planned.{Planned}
-use Rattle.insert.specs.Insert.{bytesWith, cutWith, insertedAt}
-use Rattle.insert.specs.Ready.{creatorOf, ready, notReady, onReady, readyByRoom}
-use Rattle.insert.specs.declared.ready.Ready.{Ready}
-use Rattle.insert.specs.declared.Spot.{Spot}
-use Rattle.stamp.specs.Target.{targetOf}
-use Rattle.stamp.specs.Stamp.{bytesStamped, cutStamped, stampedAt}
-use Rattle.stamp.specs.Ready.{marking, notMarking, markingByRoom, markingAt}
-use Rattle.stamp.specs.declared.Target.{Target}
-use Rattle.stamp.specs.declared.ready.Marking.{Marking}
-use Rattle.reads.specs.Find.{plain, lookedBest, findVisibleRun}
-use Rattle.reads.specs.declared.Looked.{Looked}
-use Rattle.writes.specs.Answer.{changedTo, stays}
-use Rattle.writes.specs.Insert.{insertVersionRun, insertVersionCall, insertRun, insertCall}
-use Rattle.claims.specs.Mark.{onLooked, conflictTold, markReady, marked, markRun, markCall}
-use Rattle.claims.specs.Claim.{claimReady, claimRun, claimCall}
-use Rattle.shapes.specs.Shape.{Shape, leaf, chain, pages, KeysIn, Sorted}
-use Rattle.shapes.specs.Versions.{best}
-use Rattle.shapes.proofs.Contexts.{top-key, Ctx, plug, preG, postG, loC, hiC, place}
-use Rattle.shapes.proofs.Entries.{path}
-use Rattle.shapes.proofs.Insert.{way}
-use Rattle.shapes.proofs.Zip.{plug-pages}
-use Rattle.views.proofs.Rowing.{rows-long}
-use Rattle.finds.proofs.Looking.{Standing, StandsBy, BestIs}
-use Rattle.plans.proofs.Linking.{planAbove}
-use Rattle.plans.proofs.Sides.{RowsCut}
-use Rattle.plans.proofs.Rooms.{HasRoom, room-told}
-use Rattle.plans.proofs.Leaves.{insert-fits-bytes, insert-cut}
-use Rattle.plans.proofs.Stamps.{stampedRows, stamp-fits-bytes, stamp-cut}
-use Rattle.grows.proofs.Framing.{divided-up-elsewhere}
-use Rattle.mapped.proofs.Framing.{remove-elsewhere, vacuum-elsewhere}
+use Rattle.tree_grow.specs.Grow.{Grown}
+use Rattle.tree_grow.specs.Plan.{divisionOf}
+use Rattle.tree_room.specs.Room.{noFault, dividing, roomOf}
+use Rattle.tree_room.specs.Up.{dividedUp}
+use Rattle.tree_room.specs.declared.Planned.{Planned}
+use Rattle.tree_insert.specs.Insert.{bytesWith, cutWith, insertedAt}
+use Rattle.tree_insert.specs.Ready.{creatorOf, ready, notReady, onReady, readyByRoom}
+use Rattle.tree_insert.specs.declared.ready.Ready.{Ready}
+use Rattle.tree_insert.specs.declared.Spot.{Spot}
+use Rattle.tree_stamp.specs.Target.{targetOf}
+use Rattle.tree_stamp.specs.Stamp.{bytesStamped, cutStamped, stampedAt}
+use Rattle.tree_stamp.specs.Ready.{marking, notMarking, markingByRoom, markingAt}
+use Rattle.tree_stamp.specs.declared.Target.{Target}
+use Rattle.tree_stamp.specs.declared.ready.Marking.{Marking}
+use Rattle.call_read.specs.Find.{plain, lookedBest, findVisibleRun}
+use Rattle.call_read.specs.declared.Looked.{Looked}
+use Rattle.call_insert.specs.Answer.{changedTo, stays}
+use Rattle.call_insert.specs.Insert.{insertVersionRun, insertVersionCall, insertRun, insertCall}
+use Rattle.call_stamp.specs.Mark.{onLooked, conflictTold, markReady, marked, markRun, markCall}
+use Rattle.call_stamp.specs.Claim.{claimReady, claimRun, claimCall}
+use Rattle.theory_tree.specs.Shape.{Shape, leaf, chain, pages, KeysIn, Sorted}
+use Rattle.theory_tree.specs.Versions.{best}
+use Rattle.theory_tree.proofs.Contexts.{top-key, Ctx, plug, preG, postG, loC, hiC, place}
+use Rattle.theory_tree.proofs.Entries.{path}
+use Rattle.theory_tree.proofs.Insert.{way}
+use Rattle.theory_tree.proofs.Zip.{plug-pages}
+use Rattle.theory_stores.proofs.Rowing.{rows-long}
+use Rattle.theory_walks.proofs.Looking.{Standing, StandsBy, BestIs}
+use Rattle.theory_plan.proofs.Linking.{planAbove}
+use Rattle.theory_plan.proofs.Sides.{RowsCut}
+use Rattle.theory_plan.proofs.Rooms.{HasRoom, room-told}
+use Rattle.theory_plan.proofs.Leaves.{insert-fits-bytes, insert-cut}
+use Rattle.theory_plan.proofs.Stamps.{stampedRows, stamp-fits-bytes, stamp-cut}
+use Rattle.theory_grow.proofs.Framing.{divided-up-elsewhere}
+use Rattle.theory_clean.proofs.Framing.{remove-elsewhere, vacuum-elsewhere}
 use Rattle.meaning.specs.Trees.{TreeIn}
 use Rattle.meaning.specs.Change.{Change, inserts, insertsVersion, stamps, claims, removes, Fits, run}
 use Rattle.meaning.specs.Meant.{seenBy, onBest, conflictIn, liveRow}

@@ -24,30 +24,30 @@ use Rattle.leaf.specs.Rows.{Row}
 use Rattle.leaf.specs.declared.find.Best.{Best}
 use Rattle.leaf.specs.declared.place.Cut.{Cut}
 use Rattle.tree.specs.declared.ChainTest.{ChainTest}
-use Rattle.grow.specs.Grow.{Grown}
-use Rattle.grow.specs.Plan.{pagesAsked}
-use Rattle.room.specs.Room.{noFault, planned, tooDeep, leafPlan, roomOf}
-use Rattle.room.specs.declared.Planned.{Planned}
-use Rattle.insert.specs.Spot.{spotOf}
-use Rattle.insert.specs.Insert.{bytesWith, cutWith, insertPlan}
-use Rattle.insert.specs.Ready.{creatorOf, isSeen, notReady, readyByRoom, readyAt, versionAt, newAt}
-use Rattle.insert.specs.declared.Spot.{Spot}
-use Rattle.insert.specs.declared.Spotted.{Spotted}
-use Rattle.stamp.specs.Target.{targetOf}
-use Rattle.stamp.specs.Stamp.{bytesStamped, cutStamped, stampPlan}
-use Rattle.stamp.specs.Ready.{notMarking, markingByRoom, markingAt}
-use Rattle.stamp.specs.declared.Target.{Target}
-use Rattle.writes.specs.Insert.{versionReady, insertReady}
-use Rattle.shapes.specs.View.{view}
-use Rattle.shapes.specs.Shape.{Shape, leaf, chain, WellFormed}
-use Rattle.shapes.specs.Versions.{best}
-use Rattle.shapes.proofs.Contexts.{Ctx, plug}
-use Rattle.shapes.proofs.Insert.{way, Way, way-ok}
-use Rattle.finds.proofs.Descending.{descend-insert}
-use Rattle.finds.proofs.Walking.{AtLeaf, at-leaf}
-use Rattle.finds.proofs.Looking.{rowIn, Standing, BestIs}
-use Rattle.finds.proofs.Climbing.{climb-leaf}
-use Rattle.plans.proofs.Linking.{planAbove, leafPlan-ok}
+use Rattle.tree_grow.specs.Grow.{Grown}
+use Rattle.tree_grow.specs.Plan.{pagesAsked}
+use Rattle.tree_room.specs.Room.{noFault, planned, tooDeep, leafPlan, roomOf}
+use Rattle.tree_room.specs.declared.Planned.{Planned}
+use Rattle.tree_insert.specs.Spot.{spotOf}
+use Rattle.tree_insert.specs.Insert.{bytesWith, cutWith, insertPlan}
+use Rattle.tree_insert.specs.Ready.{creatorOf, isSeen, notReady, readyByRoom, readyAt, versionAt, newAt}
+use Rattle.tree_insert.specs.declared.Spot.{Spot}
+use Rattle.tree_insert.specs.declared.Spotted.{Spotted}
+use Rattle.tree_stamp.specs.Target.{targetOf}
+use Rattle.tree_stamp.specs.Stamp.{bytesStamped, cutStamped, stampPlan}
+use Rattle.tree_stamp.specs.Ready.{notMarking, markingByRoom, markingAt}
+use Rattle.tree_stamp.specs.declared.Target.{Target}
+use Rattle.call_insert.specs.Insert.{versionReady, insertReady}
+use Rattle.theory_tree.specs.View.{view}
+use Rattle.theory_tree.specs.Shape.{Shape, leaf, chain, WellFormed}
+use Rattle.theory_tree.specs.Versions.{best}
+use Rattle.theory_tree.proofs.Contexts.{Ctx, plug}
+use Rattle.theory_tree.proofs.Insert.{way, Way, way-ok}
+use Rattle.theory_walks.proofs.Descending.{descend-insert}
+use Rattle.theory_walks.proofs.Walking.{AtLeaf, at-leaf}
+use Rattle.theory_walks.proofs.Looking.{rowIn, Standing, BestIs}
+use Rattle.theory_walks.proofs.Climbing.{climb-leaf}
+use Rattle.theory_plan.proofs.Linking.{planAbove, leafPlan-ok}
 use Rattle.meaning.specs.Trees.{TreeIn}
 use Rattle.meaning.specs.Meant.{seenBy, onBest}
 use Rattle.meaning.proofs.Reading.{found}

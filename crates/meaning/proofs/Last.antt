@@ -8,9 +8,9 @@ use Prim.Native.Nat.{ℕ}
 use native.Mathlib.Omega.{arith}
 use Rattle.store.specs.Pick.{pick}
 use Rattle.leaf.specs.Rows.{Row}
-use Rattle.edits.specs.EditFacts.{stampRow}
-use Rattle.shapes.specs.Versions.{only, ofKey, ofVersion, arrivals, orElse, when, lastOf}
-use Rattle.shapes.proofs.Abs.{some?, some-same, wit-some}
+use Rattle.leaf_edit.specs.EditFacts.{stampRow}
+use Rattle.theory_tree.specs.Versions.{only, ofKey, ofVersion, arrivals, orElse, when, lastOf}
+use Rattle.theory_tree.proofs.Abs.{some?, some-same, wit-some}
 use Rattle.meaning.specs.Meant.{someOf, changeLast}
 
 -- the theory of trees calls it `some?`

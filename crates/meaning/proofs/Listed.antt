@@ -13,20 +13,20 @@ use Rattle.mvcc.specs.Lists.{lookup, goodStatuses}
 use Rattle.mvcc.proofs.Rules.{rules-hold}
 use Rattle.leaf.proofs.Choosing.{lookup-chooses}
 use Rattle.leaf.proofs.CutFacts.{cut-cases}
-use Rattle.sweep.specs.Vacuum.{Swept, sweep}
-use Rattle.branch.proofs.Facts.{entry-enters, halves-divide}
+use Rattle.leaf_vacuum.specs.Vacuum.{Swept, sweep}
+use Rattle.inner_edit.proofs.Facts.{entry-enters, halves-divide}
 use Rattle.tree.specs.Chain.{go, ok, along}
 use Rattle.tree.specs.Create.{rooted, createdPool}
 use Rattle.tree.specs.declared.Route.{Route}
 use Rattle.tree.proofs.Ways.{along-end}
-use Rattle.grows.proofs.Cases.{pinned-root, moved-root}
-use Rattle.reads.specs.Answer.{done, ended}
-use Rattle.reads.specs.Create.{hasPage, createAfter}
-use Rattle.reads.proofs.Emptiness.{Empty, empty-judged, Alone, comes-to, created-alone, created-good, create-is-empty, tie-to-first}
-use Rattle.writes.specs.Insert.{versionReady, insertVersionRun, insertVersionCall, insertReady, insertRun, insertCall}
-use Rattle.cleans.specs.Vacuum.{lookLeaf, judgedAlong, sweptLeaf, vacuumedAlong, vacuumRun, vacuumCall}
-use Rattle.cleans.specs.declared.vacuum.ChainJudged.{ChainJudged}
-use Rattle.cleans.proofs.Storing.{vacuum-end}
+use Rattle.theory_grow.proofs.Cases.{pinned-root, moved-root}
+use Rattle.call_read.specs.Answer.{done, ended}
+use Rattle.call_read.specs.Create.{hasPage, createAfter}
+use Rattle.call_read.proofs.Emptiness.{Empty, empty-judged, Alone, comes-to, created-alone, created-good, create-is-empty, tie-to-first}
+use Rattle.call_insert.specs.Insert.{versionReady, insertVersionRun, insertVersionCall, insertReady, insertRun, insertCall}
+use Rattle.call_clean.specs.Vacuum.{lookLeaf, judgedAlong, sweptLeaf, vacuumedAlong, vacuumRun, vacuumCall}
+use Rattle.call_clean.specs.declared.vacuum.ChainJudged.{ChainJudged}
+use Rattle.call_clean.proofs.Storing.{vacuum-end}
 use Rattle.meaning.specs.Cases.{DataLimit, Cases}
 
 -- ---- P1: vacuum of an empty tree

@@ -14,11 +14,11 @@ use Rattle.mvcc.specs.Lists.{lookup, goodActive, goodStatuses}
 use Rattle.mvcc.specs.Rules.{claimConflicting, plainXmax, plainActive}
 use Rattle.mvcc.specs.declared.Current.{Current}
 use Rattle.leaf.specs.Rows.{Row}
-use Rattle.insert.specs.Ready.{creatorOf}
-use Rattle.shapes.specs.Versions.{ofVersion, arrivals, best}
-use Rattle.shapes.proofs.Order.{filt-app}
-use Rattle.shapes.proofs.Abs.{best-same, ver-remove, ver-removed}
-use Rattle.shapes.proofs.Count.{count-same}
+use Rattle.tree_insert.specs.Ready.{creatorOf}
+use Rattle.theory_tree.specs.Versions.{ofVersion, arrivals, best}
+use Rattle.theory_tree.proofs.Order.{filt-app}
+use Rattle.theory_tree.proofs.Abs.{best-same, ver-remove, ver-removed}
+use Rattle.theory_tree.proofs.Count.{count-same}
 use Rattle.meaning.specs.Change.{Change, inserts, insertsVersion, stamps, claims, removes, keyOf}
 use Rattle.meaning.specs.Meant.{Meant, refusedAs, doneWith, seenBy, arriving, onBest, stamped, liveRow}
 use Rattle.meaning.specs.Meant.{meantInsert, meantVersion, meantMark, meantClaim, meantRemove, meant}

@@ -17,18 +17,18 @@ use Rattle.leaf.specs.Cells.{cellsOf}
 use Rattle.leaf.specs.Rows.{rows}
 use Rattle.leaf.proofs.Bytes.{bytes-page}
 use Rattle.tree.specs.Create.{rooted, createdPool}
-use Rattle.grow.specs.Safe.{There}
-use Rattle.reads.specs.Create.{hasPage, createAfter}
-use Rattle.reads.proofs.Emptiness.{Empty, fresh-length, created-alone, created-good}
-use Rattle.shapes.specs.Pages.{leafPage, withPage}
-use Rattle.shapes.specs.View.{said, view}
-use Rattle.shapes.specs.Shape.{Shape, leaf, pages, WellFormed}
-use Rattle.shapes.proofs.Says.{leaf-said}
-use Rattle.shapes.proofs.Lists.{all-map, out-fresh}
-use Rattle.shapes.proofs.Frame.{frame-withPage}
-use Rattle.shapes.proofs.Links.{set-twice}
-use Rattle.views.proofs.Keeping.{bytes-zeros, bytes-field, bytes-set-page}
-use Rattle.views.proofs.Viewing.{view-page, view-set, view-fresh}
+use Rattle.tree_grow.specs.Safe.{There}
+use Rattle.call_read.specs.Create.{hasPage, createAfter}
+use Rattle.call_read.proofs.Emptiness.{Empty, fresh-length, created-alone, created-good}
+use Rattle.theory_tree.specs.Pages.{leafPage, withPage}
+use Rattle.theory_tree.specs.View.{said, view}
+use Rattle.theory_tree.specs.Shape.{Shape, leaf, pages, WellFormed}
+use Rattle.theory_tree.proofs.Says.{leaf-said}
+use Rattle.theory_tree.proofs.Lists.{all-map, out-fresh}
+use Rattle.theory_tree.proofs.Frame.{frame-withPage}
+use Rattle.theory_tree.proofs.Links.{set-twice}
+use Rattle.theory_stores.proofs.Keeping.{bytes-zeros, bytes-field, bytes-set-page}
+use Rattle.theory_stores.proofs.Viewing.{view-page, view-set, view-fresh}
 use Rattle.meaning.specs.Reads.{CreateMakes}
 
 -- what an empty leaf says

@@ -10,15 +10,15 @@ use Rattle.page.specs.Pool.{goodPool}
 use Rattle.mvcc.specs.Lists.{lookup, goodActive, goodStatuses}
 use Rattle.mvcc.specs.declared.Current.{Current}
 use Rattle.leaf.specs.declared.find.Best.{Best}
-use Rattle.checks.specs.Check.{wellFormed}
+use Rattle.tree_check.specs.Check.{wellFormed}
 use Rattle.tree.specs.declared.ChainBest.{ChainBest}
-use Rattle.grow.specs.Grow.{Grown}
-use Rattle.reads.specs.Answer.{Outcome, Value, value, nothing, done, refused}
-use Rattle.reads.specs.Check.{checkCall}
-use Rattle.reads.specs.Find.{lookedBest, findVisibleRun}
-use Rattle.shapes.specs.Shape.{Shape}
-use Rattle.formed.proofs.Formed.{formed-is, formed-yes}
-use Rattle.finds.proofs.Looking.{rowIn, BestIs, best-is}
+use Rattle.tree_grow.specs.Grow.{Grown}
+use Rattle.call_read.specs.Answer.{Outcome, Value, value, nothing, done, refused}
+use Rattle.call_read.specs.Check.{checkCall}
+use Rattle.call_read.specs.Find.{lookedBest, findVisibleRun}
+use Rattle.theory_tree.specs.Shape.{Shape}
+use Rattle.theory_check.proofs.Formed.{formed-is, formed-yes}
+use Rattle.theory_walks.proofs.Looking.{rowIn, BestIs, best-is}
 use Rattle.meaning.specs.Trees.{TreeIn, CheckIs}
 use Rattle.meaning.specs.Demand.{rowFound, LookupIs}
 

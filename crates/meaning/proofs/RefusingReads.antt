@@ -23,24 +23,24 @@ use Rattle.tree.specs.declared.Route.{Route}
 use Rattle.tree.specs.declared.Descent.{Descent}
 use Rattle.tree.specs.declared.ChainBest.{ChainBest}
 use Rattle.tree.specs.declared.ChainTest.{ChainTest}
-use Rattle.listing.specs.Records.{records}
-use Rattle.listing.specs.Listed.{Written, written, fitted}
-use Rattle.listing.specs.declared.Listing.{Listing}
-use Rattle.versions.specs.Gather.{rowsAlong}
-use Rattle.versions.specs.Listed.{listedRows, routeOf, listTree}
-use Rattle.versions.specs.declared.Which.{Which}
-use Rattle.numbers.specs.Numbers.{onTold, numbersOf, numberRecords, numbersTree}
-use Rattle.scan.specs.Visible.{chainRows, scanRows, listedVisible, scanTree}
-use Rattle.reads.specs.Answer.{done, refused}
-use Rattle.reads.specs.Create.{hasPage, createCall, createAfter}
-use Rattle.reads.specs.Find.{plain, lookedBest, findVisibleRun, hidden, findVisibleCall, findCall}
-use Rattle.reads.specs.Conflict.{toldTest, conflictCall}
-use Rattle.reads.specs.Check.{checkCall}
-use Rattle.reads.specs.Listings.{listedAs, listRun, hideList, versionsOfCall, allVersionsCall}
-use Rattle.reads.specs.Numbers.{numbersRun, pageNumbersCall}
-use Rattle.reads.specs.Scan.{scanRun, scanVisibleCall}
-use Rattle.reads.specs.declared.Looked.{Looked}
-use Rattle.reads.specs.declared.ListedAt.{ListedAt}
+use Rattle.list_records.specs.Records.{records}
+use Rattle.list_records.specs.Listed.{Written, written, fitted}
+use Rattle.list_records.specs.declared.Listing.{Listing}
+use Rattle.list_versions.specs.Gather.{rowsAlong}
+use Rattle.list_versions.specs.Listed.{listedRows, routeOf, listTree}
+use Rattle.list_versions.specs.declared.Which.{Which}
+use Rattle.list_pages.specs.Numbers.{onTold, numbersOf, numberRecords, numbersTree}
+use Rattle.list_visible.specs.Visible.{chainRows, scanRows, listedVisible, scanTree}
+use Rattle.call_read.specs.Answer.{done, refused}
+use Rattle.call_read.specs.Create.{hasPage, createCall, createAfter}
+use Rattle.call_read.specs.Find.{plain, lookedBest, findVisibleRun, hidden, findVisibleCall, findCall}
+use Rattle.call_read.specs.Conflict.{toldTest, conflictCall}
+use Rattle.call_read.specs.Check.{checkCall}
+use Rattle.call_read.specs.Listings.{listedAs, listRun, hideList, versionsOfCall, allVersionsCall}
+use Rattle.call_read.specs.Numbers.{numbersRun, pageNumbersCall}
+use Rattle.call_read.specs.Scan.{scanRun, scanVisibleCall}
+use Rattle.call_read.specs.declared.Looked.{Looked}
+use Rattle.call_read.specs.declared.ListedAt.{ListedAt}
 use Rattle.meaning.specs.Refusals.{Refuses, KeepsOutput, ReadsRefuse}
 use Rattle.meaning.proofs.Refusing.{Known, either, done-refuses, refused-refuses}
 

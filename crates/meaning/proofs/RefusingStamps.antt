@@ -21,14 +21,14 @@ use Rattle.leaf.specs.CutFacts.{Between}
 use Rattle.leaf.proofs.CutFacts.{stamp-divides}
 use Rattle.leaf.proofs.Chain.{Chain}
 use Rattle.leaf.proofs.Bytes.{bytes-page}
-use Rattle.room.proofs.Telling.{plan-told}
-use Rattle.room.proofs.Keeping.{planned-is}
-use Rattle.stamp.specs.Target.{targetOf, Met}
-use Rattle.stamp.specs.Stamp.{bytesStamped, cutStamped, stampPlan}
-use Rattle.stamp.specs.declared.Target.{Target}
-use Rattle.stamp.proofs.Meeting.{Stands, target-stands}
-use Rattle.stamp.proofs.Cutting.{m, xs, ys, all, live, whole-sum, cut-is}
-use Rattle.stamp.proofs.Sums.{between-append}
+use Rattle.tree_room.proofs.Telling.{plan-told}
+use Rattle.tree_room.proofs.Keeping.{planned-is}
+use Rattle.tree_stamp.specs.Target.{targetOf, Met}
+use Rattle.tree_stamp.specs.Stamp.{bytesStamped, cutStamped, stampPlan}
+use Rattle.tree_stamp.specs.declared.Target.{Target}
+use Rattle.tree_stamp.proofs.Meeting.{Stands, target-stands}
+use Rattle.tree_stamp.proofs.Cutting.{m, xs, ys, all, live, whole-sum, cut-is}
+use Rattle.tree_stamp.proofs.Sums.{between-append}
 
 -- a cell has 19 bytes at least, and a page has 4084 for its cells
 sizes-bound : (pg : List ℕ) → length pg ≤ 4096 → (at : ℕ) (cs : List Cell) → 12 ≤ at → Chain pg at cs → Between 19 4084 (sizesOf cs)

@@ -25,37 +25,37 @@ use Rattle.tree.specs.declared.Route.{Route}
 use Rattle.tree.specs.declared.Descent.{Descent}
 use Rattle.tree.specs.declared.ChainBest.{ChainBest}
 use Rattle.tree.specs.declared.ChainTest.{ChainTest}
-use Rattle.grow.specs.Grow.{Grown, grown}
-use Rattle.grow.specs.Plan.{pagesAsked}
-use Rattle.room.specs.Room.{noFault, tooDeep, roomOf}
-use Rattle.room.specs.declared.Planned.{Planned}
-use Rattle.insert.specs.Spot.{spotOf}
-use Rattle.insert.specs.Insert.{bytesWith, insertPlan, insertedAt}
-use Rattle.insert.specs.Ready.{notReady, onReady, onSpot, readyAt, versionAt, creatorOf, isSeen, onChain, newAt}
-use Rattle.insert.specs.declared.Spot.{Spot}
-use Rattle.insert.specs.declared.Spotted.{Spotted}
-use Rattle.insert.specs.declared.ready.Ready.{Ready}
-use Rattle.stamp.specs.Target.{targetOf, Met}
-use Rattle.stamp.specs.Stamp.{bytesStamped, stampPlan}
-use Rattle.stamp.specs.Ready.{notMarking, onTest, markingByRoom, markingAt}
-use Rattle.stamp.specs.declared.Target.{Target}
-use Rattle.stamp.specs.declared.ready.Marking.{Marking}
-use Rattle.reads.specs.Answer.{Ended, ended}
-use Rattle.reads.specs.Find.{plain, badTree, findVisibleRun}
-use Rattle.reads.specs.declared.Looked.{Looked}
-use Rattle.reads.specs.declared.Refusal.{Refusal}
-use Rattle.writes.specs.Answer.{changedTo, stays, hideEnd}
-use Rattle.writes.specs.Insert.{versionReady, insertVersionRun, insertVersionCall, insertReady, insertRun, insertCall}
-use Rattle.writes.specs.declared.Changed.{Changed}
-use Rattle.claims.specs.Mark.{onLooked, conflictTold, markReady, marked, markRun, markCall, markPlainCall, deleteCall}
-use Rattle.claims.specs.Claim.{claimReady, claimRun, claimCall}
-use Rattle.claims.proofs.Stamping.{looked-finds}
-use Rattle.cleans.specs.Answer.{notCleared, clearedEnd}
-use Rattle.cleans.specs.Remove.{countAlong, removedAlong, onCount, removeRun, removeCall}
-use Rattle.cleans.specs.Vacuum.{judgedAlong, vacuumedAlong, dropped, onChainJudged, vacuumRun, vacuumCall}
-use Rattle.cleans.specs.declared.Cleared.{Cleared}
-use Rattle.cleans.specs.declared.remove.ChainCount.{ChainCount}
-use Rattle.cleans.specs.declared.vacuum.ChainJudged.{ChainJudged}
+use Rattle.tree_grow.specs.Grow.{Grown, grown}
+use Rattle.tree_grow.specs.Plan.{pagesAsked}
+use Rattle.tree_room.specs.Room.{noFault, tooDeep, roomOf}
+use Rattle.tree_room.specs.declared.Planned.{Planned}
+use Rattle.tree_insert.specs.Spot.{spotOf}
+use Rattle.tree_insert.specs.Insert.{bytesWith, insertPlan, insertedAt}
+use Rattle.tree_insert.specs.Ready.{notReady, onReady, onSpot, readyAt, versionAt, creatorOf, isSeen, onChain, newAt}
+use Rattle.tree_insert.specs.declared.Spot.{Spot}
+use Rattle.tree_insert.specs.declared.Spotted.{Spotted}
+use Rattle.tree_insert.specs.declared.ready.Ready.{Ready}
+use Rattle.tree_stamp.specs.Target.{targetOf, Met}
+use Rattle.tree_stamp.specs.Stamp.{bytesStamped, stampPlan}
+use Rattle.tree_stamp.specs.Ready.{notMarking, onTest, markingByRoom, markingAt}
+use Rattle.tree_stamp.specs.declared.Target.{Target}
+use Rattle.tree_stamp.specs.declared.ready.Marking.{Marking}
+use Rattle.call_read.specs.Answer.{Ended, ended}
+use Rattle.call_read.specs.Find.{plain, badTree, findVisibleRun}
+use Rattle.call_read.specs.declared.Looked.{Looked}
+use Rattle.call_read.specs.declared.Refusal.{Refusal}
+use Rattle.call_insert.specs.Answer.{changedTo, stays, hideEnd}
+use Rattle.call_insert.specs.Insert.{versionReady, insertVersionRun, insertVersionCall, insertReady, insertRun, insertCall}
+use Rattle.call_insert.specs.declared.Changed.{Changed}
+use Rattle.call_stamp.specs.Mark.{onLooked, conflictTold, markReady, marked, markRun, markCall, markPlainCall, deleteCall}
+use Rattle.call_stamp.specs.Claim.{claimReady, claimRun, claimCall}
+use Rattle.call_stamp.proofs.Stamping.{looked-finds}
+use Rattle.call_clean.specs.Answer.{notCleared, clearedEnd}
+use Rattle.call_clean.specs.Remove.{countAlong, removedAlong, onCount, removeRun, removeCall}
+use Rattle.call_clean.specs.Vacuum.{judgedAlong, vacuumedAlong, dropped, onChainJudged, vacuumRun, vacuumCall}
+use Rattle.call_clean.specs.declared.Cleared.{Cleared}
+use Rattle.call_clean.specs.declared.remove.ChainCount.{ChainCount}
+use Rattle.call_clean.specs.declared.vacuum.ChainJudged.{ChainJudged}
 use Rattle.meaning.specs.Refusals.{Keeps, WritesRefuse}
 use Rattle.meaning.proofs.Refusing.{Known, done-known, either, done-refuses, refused-refuses}
 use Rattle.meaning.proofs.RefusingReads.{LookedKnown, looked-known, plain-active}

@@ -6,7 +6,7 @@ use Prim.Native.Nat.{ℕ}
 use lib.Dec.{eqb}
 use borrow.Author.Tests.{eqb-true, eqb-false}
 use Rattle.leaf.specs.Rows.{Row}
-use Rattle.shapes.specs.Versions.{arrivals, SameVersions}
+use Rattle.theory_tree.specs.Versions.{arrivals, SameVersions}
 use Rattle.meaning.specs.Change.{Change, keyOf}
 use Rattle.meaning.specs.Meant.{meant}
 use Rattle.meaning.proofs.Local.{Alike, meant-alike, meant-keeps}

@@ -15,9 +15,9 @@ use Rattle.mvcc.specs.Rules.{isCurrent, ofDeleter, finishedWith, finishedBefore
 use Rattle.mvcc.specs.declared.Current.{Current}
 use Rattle.mvcc.proofs.RuleLaws.{unfinished-late, unfinished-active}
 use Rattle.leaf.specs.Rows.{Row}
-use Rattle.edits.specs.EditFacts.{stampRow}
-use Rattle.shapes.specs.Versions.{arrivals, lastOf, best}
-use Rattle.shapes.proofs.Abs.{Chosen, best-chosen, chosen-same}
+use Rattle.leaf_edit.specs.EditFacts.{stampRow}
+use Rattle.theory_tree.specs.Versions.{arrivals, lastOf, best}
+use Rattle.theory_tree.proofs.Abs.{Chosen, best-chosen, chosen-same}
 use Rattle.meaning.specs.Meant.{Meant, refusedAs, doneWith, seenBy, onBest, stamped, conflictIn, meantMark, meantClaim}
 use Rattle.meaning.proofs.Last.{some-version, change-own, last-seen, last-there, last-changed}
 use Rattle.meaning.proofs.Local.{stamped-creator}

@@ -21,25 +21,25 @@ use Rattle.leaf.specs.Rows.{Row, rowOf, rowsBytes}
 use Rattle.leaf.specs.RowFacts.{Sound}
 use Rattle.leaf.specs.declared.place.Cut.{Cut}
 use Rattle.leaf.proofs.Bytes.{bytes-page}
-use Rattle.edits.specs.EditFacts.{stampRow}
-use Rattle.grow.specs.Grow.{Grown}
-use Rattle.grow.specs.Plan.{divisionOf}
-use Rattle.room.specs.Room.{roomOf}
-use Rattle.room.specs.Up.{dividedUp}
-use Rattle.stamp.specs.Target.{targetOf}
-use Rattle.stamp.specs.Stamp.{bytesStamped, cutStamped, splicedStamp, stampedAt}
-use Rattle.stamp.specs.declared.Target.{Target}
-use Rattle.shapes.specs.Shape.{Shape, chain, All, KeysIn, Sorted}
-use Rattle.shapes.specs.Versions.{ofVersion, arrivals}
-use Rattle.shapes.proofs.Contexts.{top-key, Ctx, preC, postC, loC, hiC}
-use Rattle.shapes.proofs.Entries.{path}
-use Rattle.finds.proofs.Walking.{AtLeaf, at-leaf}
-use Rattle.finds.proofs.Looking.{Standing, standing-chain}
-use Rattle.views.proofs.Keeping.{bytes-part, bytes-spliced, bytes-cell}
-use Rattle.plans.proofs.Linking.{planAbove}
-use Rattle.plans.proofs.Rooms.{room-told}
-use Rattle.plans.proofs.Leaves.{leaf-held}
-use Rattle.plans.proofs.Stamps.{met-sound, stampedRows, stamp-keys, stamp-sorted, stamp-count, stamp-all-fit, stamp-spliced-is, stamp-fits-bytes, stamp-cut}
+use Rattle.leaf_edit.specs.EditFacts.{stampRow}
+use Rattle.tree_grow.specs.Grow.{Grown}
+use Rattle.tree_grow.specs.Plan.{divisionOf}
+use Rattle.tree_room.specs.Room.{roomOf}
+use Rattle.tree_room.specs.Up.{dividedUp}
+use Rattle.tree_stamp.specs.Target.{targetOf}
+use Rattle.tree_stamp.specs.Stamp.{bytesStamped, cutStamped, splicedStamp, stampedAt}
+use Rattle.tree_stamp.specs.declared.Target.{Target}
+use Rattle.theory_tree.specs.Shape.{Shape, chain, All, KeysIn, Sorted}
+use Rattle.theory_tree.specs.Versions.{ofVersion, arrivals}
+use Rattle.theory_tree.proofs.Contexts.{top-key, Ctx, preC, postC, loC, hiC}
+use Rattle.theory_tree.proofs.Entries.{path}
+use Rattle.theory_walks.proofs.Walking.{AtLeaf, at-leaf}
+use Rattle.theory_walks.proofs.Looking.{Standing, standing-chain}
+use Rattle.theory_stores.proofs.Keeping.{bytes-part, bytes-spliced, bytes-cell}
+use Rattle.theory_plan.proofs.Linking.{planAbove}
+use Rattle.theory_plan.proofs.Rooms.{room-told}
+use Rattle.theory_plan.proofs.Leaves.{leaf-held}
+use Rattle.theory_plan.proofs.Stamps.{met-sound, stampedRows, stamp-keys, stamp-sorted, stamp-count, stamp-all-fit, stamp-spliced-is, stamp-fits-bytes, stamp-cut}
 use Rattle.meaning.specs.Trees.{TreeIn}
 use Rattle.meaning.specs.Meant.{someOf, changeLast, stamped}
 use Rattle.meaning.proofs.Judging.{formed-at, targetFor, stampPlanned, stampRoom}

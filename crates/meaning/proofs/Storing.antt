@@ -20,28 +20,28 @@ use Rattle.leaf.specs.Rows.{Row, AllFit, rowsBytes, writeRows}
 use Rattle.leaf.specs.declared.place.Cut.{Cut}
 use Rattle.tree.specs.Climb.{pathOf}
 use Rattle.tree.proofs.Ways.{and-both}
-use Rattle.grow.specs.Grow.{Grown, grown}
-use Rattle.grow.specs.Plan.{divisionOf}
-use Rattle.grow.specs.Safe.{There}
-use Rattle.room.specs.Room.{dividing}
-use Rattle.room.specs.Up.{dividedUp}
-use Rattle.shapes.specs.Pages.{leafPage, withPage}
-use Rattle.shapes.specs.View.{view}
-use Rattle.shapes.specs.Shape.{Shape, leaf, chain, KeysIn, Sorted, WellFormed}
-use Rattle.shapes.proofs.Contexts.{top-key, Ctx, plug, preC, postC, preG, postG, loC, hiC, parC, nxtC, Grown as Raised}
-use Rattle.shapes.proofs.Entries.{path}
-use Rattle.shapes.proofs.Lists.{all-right}
-use Rattle.shapes.proofs.Says.{LeafSays}
-use Rattle.shapes.proofs.Zip.{plug-chain, plug-pages}
-use Rattle.shapes.proofs.Leaf.{leaf-withPage}
-use Rattle.views.proofs.Keeping.{bytes-field, bytes-pad, bytes-set-page}
-use Rattle.views.proofs.Viewing.{view-set}
-use Rattle.views.proofs.Rowing.{rows-long, said-rows}
-use Rattle.plans.proofs.Linking.{leaf-grown}
-use Rattle.plans.proofs.Sides.{RowsCut}
-use Rattle.plans.proofs.Leaves.{leaf-held}
-use Rattle.plans.proofs.Rooms.{HasRoom, GrowsIn, grows-in}
-use Rattle.grows.proofs.Settling.{usedAfter, Settled, dividedTree, divided-up-wf}
+use Rattle.tree_grow.specs.Grow.{Grown, grown}
+use Rattle.tree_grow.specs.Plan.{divisionOf}
+use Rattle.tree_grow.specs.Safe.{There}
+use Rattle.tree_room.specs.Room.{dividing}
+use Rattle.tree_room.specs.Up.{dividedUp}
+use Rattle.theory_tree.specs.Pages.{leafPage, withPage}
+use Rattle.theory_tree.specs.View.{view}
+use Rattle.theory_tree.specs.Shape.{Shape, leaf, chain, KeysIn, Sorted, WellFormed}
+use Rattle.theory_tree.proofs.Contexts.{top-key, Ctx, plug, preC, postC, preG, postG, loC, hiC, parC, nxtC, Grown as Raised}
+use Rattle.theory_tree.proofs.Entries.{path}
+use Rattle.theory_tree.proofs.Lists.{all-right}
+use Rattle.theory_tree.proofs.Says.{LeafSays}
+use Rattle.theory_tree.proofs.Zip.{plug-chain, plug-pages}
+use Rattle.theory_tree.proofs.Leaf.{leaf-withPage}
+use Rattle.theory_stores.proofs.Keeping.{bytes-field, bytes-pad, bytes-set-page}
+use Rattle.theory_stores.proofs.Viewing.{view-set}
+use Rattle.theory_stores.proofs.Rowing.{rows-long, said-rows}
+use Rattle.theory_plan.proofs.Linking.{leaf-grown}
+use Rattle.theory_plan.proofs.Sides.{RowsCut}
+use Rattle.theory_plan.proofs.Leaves.{leaf-held}
+use Rattle.theory_plan.proofs.Rooms.{HasRoom, GrowsIn, grows-in}
+use Rattle.theory_grow.proofs.Settling.{usedAfter, Settled, dividedTree, divided-up-wf}
 use Rattle.meaning.specs.Trees.{TreeIn}
 use Rattle.meaning.proofs.Judging.{formed-at}
 

@@ -14,29 +14,29 @@ use Rattle.leaf.specs.declared.Judged.{Judged}
 use Rattle.leaf.specs.declared.find.Best.{Best}
 use Rattle.tree.specs.Chain.{Seen, stop, go, ok, along}
 use Rattle.tree.specs.declared.ChainBest.{ChainBest}
-use Rattle.grow.specs.Grow.{Grown}
-use Rattle.listing.specs.Records.{records}
-use Rattle.versions.specs.Gather.{ofKey as keyed, lookRows, rowsAlong}
-use Rattle.versions.specs.Listed.{listTree}
-use Rattle.versions.specs.declared.Which.{Which}
-use Rattle.numbers.specs.Numbers.{numberRecords, numbersTree}
-use Rattle.scan.specs.Visible.{lookAll, chainRows, scanRows, scanTree}
-use Rattle.reads.specs.Answer.{done}
-use Rattle.reads.specs.Find.{lookedBest, hidden, findVisibleCall}
-use Rattle.reads.specs.Conflict.{conflictCall}
-use Rattle.reads.specs.Listings.{listRun, versionsOfCall, allVersionsCall}
-use Rattle.reads.specs.Numbers.{numbersRun, pageNumbersCall}
-use Rattle.reads.specs.Scan.{scanRun, scanVisibleCall}
-use Rattle.shapes.specs.View.{view}
-use Rattle.shapes.specs.Shape.{Shape, chain, first, All, WellFormed}
-use Rattle.shapes.specs.Versions.{only, ofKey, best}
-use Rattle.shapes.proofs.Workers.{larger}
-use Rattle.shapes.proofs.Contexts.{top}
-use Rattle.shapes.proofs.Seek.{leafOf}
-use Rattle.shapes.proofs.Walk.{locs, locs-plug}
-use Rattle.finds.proofs.Descending.{descend-search, descend-first}
-use Rattle.finds.proofs.Walking.{at-leaves, gather-chain, walk-key, walk-all}
-use Rattle.finds.proofs.Looking.{larger-is, rowIn, meets, test-is}
+use Rattle.tree_grow.specs.Grow.{Grown}
+use Rattle.list_records.specs.Records.{records}
+use Rattle.list_versions.specs.Gather.{ofKey as keyed, lookRows, rowsAlong}
+use Rattle.list_versions.specs.Listed.{listTree}
+use Rattle.list_versions.specs.declared.Which.{Which}
+use Rattle.list_pages.specs.Numbers.{numberRecords, numbersTree}
+use Rattle.list_visible.specs.Visible.{lookAll, chainRows, scanRows, scanTree}
+use Rattle.call_read.specs.Answer.{done}
+use Rattle.call_read.specs.Find.{lookedBest, hidden, findVisibleCall}
+use Rattle.call_read.specs.Conflict.{conflictCall}
+use Rattle.call_read.specs.Listings.{listRun, versionsOfCall, allVersionsCall}
+use Rattle.call_read.specs.Numbers.{numbersRun, pageNumbersCall}
+use Rattle.call_read.specs.Scan.{scanRun, scanVisibleCall}
+use Rattle.theory_tree.specs.View.{view}
+use Rattle.theory_tree.specs.Shape.{Shape, chain, first, All, WellFormed}
+use Rattle.theory_tree.specs.Versions.{only, ofKey, best}
+use Rattle.theory_tree.proofs.Workers.{larger}
+use Rattle.theory_tree.proofs.Contexts.{top}
+use Rattle.theory_tree.proofs.Seek.{leafOf}
+use Rattle.theory_tree.proofs.Walk.{locs, locs-plug}
+use Rattle.theory_walks.proofs.Descending.{descend-search, descend-first}
+use Rattle.theory_walks.proofs.Walking.{at-leaves, gather-chain, walk-key, walk-all}
+use Rattle.theory_walks.proofs.Looking.{larger-is, rowIn, meets, test-is}
 use Rattle.meaning.specs.Trees.{TreeIn}
 use Rattle.meaning.specs.Meant.{seenBy, someOf, onBest}
 use Rattle.meaning.specs.Reads.{listing, numbersIn, ReadsTell}

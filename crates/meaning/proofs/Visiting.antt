@@ -11,16 +11,16 @@ use Rattle.page.specs.Header.{nodeType}
 use Rattle.mvcc.specs.Lists.{mem}
 use Rattle.inner.specs.Inner.{childAt, childrenFrom}
 use Rattle.tree.specs.Chain.{Told, ok, ill}
-use Rattle.numbers.specs.Numbers.{topOf, onTold, visitKids, visiting, numbersOf}
-use Rattle.numbers.specs.declared.Top.{Top}
-use Rattle.numbers.proofs.Tops.{top-leaf, top-inner}
-use Rattle.shapes.specs.View.{view}
-use Rattle.shapes.specs.Shape.{Shape, leaf, node, pair, pages, head, rest, first, Holds, Deep, All, NoneTwice, Bounded, IsTree, WellFormed}
-use Rattle.shapes.proofs.Workers.{roots}
-use Rattle.shapes.proofs.Lists.{all-app, all-left, all-right, nd-left, nd-right, Out, nd-apart, out-mem}
-use Rattle.shapes.proofs.Enter.{roots-is}
-use Rattle.checks.proofs.Linking.{children-last}
-use Rattle.finds.proofs.Paging.{leaf-at, inner-at, count-of, children-of, judged-inner-of, seps-rise}
+use Rattle.list_pages.specs.Numbers.{topOf, onTold, visitKids, visiting, numbersOf}
+use Rattle.list_pages.specs.declared.Top.{Top}
+use Rattle.list_pages.proofs.Tops.{top-leaf, top-inner}
+use Rattle.theory_tree.specs.View.{view}
+use Rattle.theory_tree.specs.Shape.{Shape, leaf, node, pair, pages, head, rest, first, Holds, Deep, All, NoneTwice, Bounded, IsTree, WellFormed}
+use Rattle.theory_tree.proofs.Workers.{roots}
+use Rattle.theory_tree.proofs.Lists.{all-app, all-left, all-right, nd-left, nd-right, Out, nd-apart, out-mem}
+use Rattle.theory_tree.proofs.Enter.{roots-is}
+use Rattle.tree_check.proofs.Linking.{children-last}
+use Rattle.theory_walks.proofs.Paging.{leaf-at, inner-at, count-of, children-of, judged-inner-of, seps-rise}
 use Rattle.meaning.specs.Reads.{numbersIn}
 
 -- what all pages have, all that are listed have

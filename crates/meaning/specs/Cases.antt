@@ -14,15 +14,15 @@ use Rattle.mvcc.specs.Facts.{RulesHold}
 use Rattle.mvcc.specs.declared.Current.{Current}
 use Rattle.leaf.specs.CutFacts.{CutCases}
 use Rattle.leaf.specs.FindFacts.{LookupChooses}
-use Rattle.branch.specs.Facts.{EntryEnters, HalvesDivide}
+use Rattle.inner_edit.specs.Facts.{EntryEnters, HalvesDivide}
 use Rattle.tree.specs.Create.{rooted}
-use Rattle.grows.specs.Rooted.{PinnedRoot, MovedRoot}
-use Rattle.insert.specs.Ready.{newAt, versionAt}
-use Rattle.reads.specs.Answer.{done, refused, ended}
-use Rattle.reads.specs.Create.{hasPage, createAfter}
-use Rattle.reads.specs.Facts.{CreateIsEmpty, TieToFirst}
-use Rattle.writes.specs.Insert.{versionReady, insertVersionCall, insertReady, insertCall}
-use Rattle.cleans.specs.Vacuum.{vacuumCall}
+use Rattle.theory_grow.specs.Rooted.{PinnedRoot, MovedRoot}
+use Rattle.tree_insert.specs.Ready.{newAt, versionAt}
+use Rattle.call_read.specs.Answer.{done, refused, ended}
+use Rattle.call_read.specs.Create.{hasPage, createAfter}
+use Rattle.call_read.specs.Facts.{CreateIsEmpty, TieToFirst}
+use Rattle.call_insert.specs.Insert.{versionReady, insertVersionCall, insertReady, insertCall}
+use Rattle.call_clean.specs.Vacuum.{vacuumCall}
 
 -- P2: data of 4051 passes: it is not what an insertion is refused for; 4052 is BadData
 pub record DataLimit : Type 0 where

@@ -11,13 +11,13 @@ use Rattle.row.specs.declared.Stamp.{Stamp}
 use Rattle.row.specs.declared.Pointer.{Pointer}
 use Rattle.mvcc.specs.Lists.{mem}
 use Rattle.mvcc.specs.declared.Current.{Current}
-use Rattle.grow.specs.Grow.{Grown, grown}
-use Rattle.insert.specs.Ready.{creatorOf}
-use Rattle.reads.specs.Answer.{Outcome, Value, value, nothing, Ended}
-use Rattle.writes.specs.Insert.{insertCall, insertVersionCall}
-use Rattle.claims.specs.Mark.{markCall}
-use Rattle.claims.specs.Claim.{claimCall}
-use Rattle.cleans.specs.Remove.{removeCall}
+use Rattle.tree_grow.specs.Grow.{Grown, grown}
+use Rattle.tree_insert.specs.Ready.{creatorOf}
+use Rattle.call_read.specs.Answer.{Outcome, Value, value, nothing, Ended}
+use Rattle.call_insert.specs.Insert.{insertCall, insertVersionCall}
+use Rattle.call_stamp.specs.Mark.{markCall}
+use Rattle.call_stamp.specs.Claim.{claimCall}
+use Rattle.call_clean.specs.Remove.{removeCall}
 
 pub data Change : Type 0 where
   inserts : (key : ℕ) → (body : List ℕ) → Current → (ids states : List ℕ) → Change

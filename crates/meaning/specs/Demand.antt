@@ -9,13 +9,13 @@ use Rattle.leaf.specs.Rows.{Row, rowOf}
 use Rattle.mvcc.specs.Lists.{lookup, goodActive, goodStatuses}
 use Rattle.mvcc.specs.Rules.{changedAfter}
 use Rattle.mvcc.specs.declared.Current.{Current}
-use Rattle.grow.specs.Grow.{Grown}
-use Rattle.reads.specs.Answer.{refused, ended}
-use Rattle.claims.specs.Claim.{claimCall}
-use Rattle.reads.specs.Find.{findVisibleRun}
-use Rattle.reads.specs.declared.Looked.{Looked}
-use Rattle.shapes.specs.Shape.{Shape, chain}
-use Rattle.shapes.specs.Versions.{SameVersions, best}
+use Rattle.tree_grow.specs.Grow.{Grown}
+use Rattle.call_read.specs.Answer.{refused, ended}
+use Rattle.call_stamp.specs.Claim.{claimCall}
+use Rattle.call_read.specs.Find.{findVisibleRun}
+use Rattle.call_read.specs.declared.Looked.{Looked}
+use Rattle.theory_tree.specs.Shape.{Shape, chain}
+use Rattle.theory_tree.specs.Versions.{SameVersions, best}
 use Rattle.meaning.specs.Trees.{TreeIn}
 use Rattle.meaning.specs.Change.{Change, claims, keyOf, Fits, Ran, run, Roomy}
 use Rattle.meaning.specs.Meant.{seenBy, meant}

@@ -6,9 +6,9 @@ use mathlib.Core.List.{[], _∷_}
 use Prim.Native.Nat.{ℕ}
 use Rattle.mvcc.specs.Rules.{changedAfter}
 use Rattle.mvcc.specs.declared.Current.{Current}
-use Rattle.grow.specs.Grow.{Grown}
-use Rattle.reads.specs.Find.{findVisibleRun}
-use Rattle.shapes.specs.Shape.{Shape, Deep}
+use Rattle.tree_grow.specs.Grow.{Grown}
+use Rattle.call_read.specs.Find.{findVisibleRun}
+use Rattle.theory_tree.specs.Shape.{Shape, Deep}
 use Rattle.meaning.specs.Trees.{TreeIn}
 use Rattle.meaning.specs.Change.{claims, Fits, run}
 use Rattle.meaning.specs.Demand.{Warned}

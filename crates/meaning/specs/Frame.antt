@@ -5,9 +5,9 @@ use mathlib.Core.List.{List}
 use Prim.Native.Nat.{ℕ, _<_}
 use Rattle.page.specs.Page.{page}
 use Rattle.mvcc.specs.Lists.{mem}
-use Rattle.grow.specs.Grow.{Grown}
-use Rattle.cleans.specs.Vacuum.{vacuumCall}
-use Rattle.shapes.specs.Shape.{Shape, pages}
+use Rattle.tree_grow.specs.Grow.{Grown}
+use Rattle.call_clean.specs.Vacuum.{vacuumCall}
+use Rattle.theory_tree.specs.Shape.{Shape, pages}
 use Rattle.meaning.specs.Trees.{TreeIn}
 use Rattle.meaning.specs.Change.{Change, Fits, run}
 

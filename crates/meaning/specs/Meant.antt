@@ -13,9 +13,9 @@ use Rattle.mvcc.specs.Lists.{lookup, goodActive, goodStatuses}
 use Rattle.mvcc.specs.Rules.{visible, claimConflicting, plainXmax, plainActive}
 use Rattle.mvcc.specs.declared.Current.{Current}
 use Rattle.leaf.specs.Rows.{Row}
-use Rattle.edits.specs.EditFacts.{stampRow}
-use Rattle.insert.specs.Ready.{creatorOf}
-use Rattle.shapes.specs.Versions.{only, ofKey, ofVersion, best}
+use Rattle.leaf_edit.specs.EditFacts.{stampRow}
+use Rattle.tree_insert.specs.Ready.{creatorOf}
+use Rattle.theory_tree.specs.Versions.{only, ofKey, ofVersion, best}
 use Rattle.meaning.specs.Change.{Change, inserts, insertsVersion, stamps, claims, removes}
 
 pub record Meant : Type 0 where

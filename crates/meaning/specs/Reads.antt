@@ -9,23 +9,23 @@ use Rattle.page.specs.Pool.{goodPool}
 use Rattle.mvcc.specs.Lists.{lookup, goodActive, goodStatuses}
 use Rattle.mvcc.specs.Rules.{conflicting}
 use Rattle.mvcc.specs.declared.Current.{Current}
-use Rattle.sweep.specs.Vacuum.{keptRows, droppedRows}
+use Rattle.leaf_vacuum.specs.Vacuum.{keptRows, droppedRows}
 use Rattle.tree.specs.Create.{rooted}
-use Rattle.grow.specs.Grow.{Grown, grown}
-use Rattle.listing.specs.Listed.{Written, fitted}
-use Rattle.listing.specs.Records.{records}
-use Rattle.numbers.specs.Numbers.{numberRecords}
-use Rattle.scan.specs.Visible.{scanRows}
-use Rattle.reads.specs.Answer.{Outcome, done, Ended}
-use Rattle.reads.specs.Create.{hasPage, createAfter}
-use Rattle.reads.specs.Find.{findVisibleCall}
-use Rattle.reads.specs.Conflict.{conflictCall}
-use Rattle.reads.specs.Listings.{listedAs, hideList, versionsOfCall, allVersionsCall}
-use Rattle.reads.specs.Numbers.{pageNumbersCall}
-use Rattle.reads.specs.Scan.{scanVisibleCall}
-use Rattle.cleans.specs.Vacuum.{vacuumCall}
-use Rattle.shapes.specs.Shape.{Shape, leaf, node, pair, chain}
-use Rattle.shapes.specs.Versions.{only, ofKey, best}
+use Rattle.tree_grow.specs.Grow.{Grown, grown}
+use Rattle.list_records.specs.Listed.{Written, fitted}
+use Rattle.list_records.specs.Records.{records}
+use Rattle.list_pages.specs.Numbers.{numberRecords}
+use Rattle.list_visible.specs.Visible.{scanRows}
+use Rattle.call_read.specs.Answer.{Outcome, done, Ended}
+use Rattle.call_read.specs.Create.{hasPage, createAfter}
+use Rattle.call_read.specs.Find.{findVisibleCall}
+use Rattle.call_read.specs.Conflict.{conflictCall}
+use Rattle.call_read.specs.Listings.{listedAs, hideList, versionsOfCall, allVersionsCall}
+use Rattle.call_read.specs.Numbers.{pageNumbersCall}
+use Rattle.call_read.specs.Scan.{scanVisibleCall}
+use Rattle.call_clean.specs.Vacuum.{vacuumCall}
+use Rattle.theory_tree.specs.Shape.{Shape, leaf, node, pair, chain}
+use Rattle.theory_tree.specs.Versions.{only, ofKey, best}
 use Rattle.meaning.specs.Trees.{TreeIn}
 use Rattle.meaning.specs.Meant.{seenBy, someOf, onBest}
 

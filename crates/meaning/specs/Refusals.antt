@@ -10,20 +10,20 @@ use Rattle.row.specs.declared.Stamp.{Stamp}
 use Rattle.row.specs.declared.Pointer.{Pointer}
 use Rattle.mvcc.specs.Lists.{mem}
 use Rattle.mvcc.specs.declared.Current.{Current}
-use Rattle.listing.specs.Listed.{Written}
-use Rattle.reads.specs.Answer.{Outcome, nothing, Ended}
-use Rattle.reads.specs.Create.{createCall, createAfter}
-use Rattle.reads.specs.Find.{findVisibleCall, findCall}
-use Rattle.reads.specs.Conflict.{conflictCall}
-use Rattle.reads.specs.Check.{checkCall}
-use Rattle.reads.specs.Listings.{versionsOfCall, allVersionsCall}
-use Rattle.reads.specs.Numbers.{pageNumbersCall}
-use Rattle.reads.specs.Scan.{scanVisibleCall}
-use Rattle.writes.specs.Insert.{insertCall, insertVersionCall}
-use Rattle.claims.specs.Mark.{markCall, markPlainCall, deleteCall}
-use Rattle.claims.specs.Claim.{claimCall}
-use Rattle.cleans.specs.Remove.{removeCall}
-use Rattle.cleans.specs.Vacuum.{vacuumCall}
+use Rattle.list_records.specs.Listed.{Written}
+use Rattle.call_read.specs.Answer.{Outcome, nothing, Ended}
+use Rattle.call_read.specs.Create.{createCall, createAfter}
+use Rattle.call_read.specs.Find.{findVisibleCall, findCall}
+use Rattle.call_read.specs.Conflict.{conflictCall}
+use Rattle.call_read.specs.Check.{checkCall}
+use Rattle.call_read.specs.Listings.{versionsOfCall, allVersionsCall}
+use Rattle.call_read.specs.Numbers.{pageNumbersCall}
+use Rattle.call_read.specs.Scan.{scanVisibleCall}
+use Rattle.call_insert.specs.Insert.{insertCall, insertVersionCall}
+use Rattle.call_stamp.specs.Mark.{markCall, markPlainCall, deleteCall}
+use Rattle.call_stamp.specs.Claim.{claimCall}
+use Rattle.call_clean.specs.Remove.{removeCall}
+use Rattle.call_clean.specs.Vacuum.{vacuumCall}
 
 -- the answer is Done or one of these refusals, which gives nothing
 pub record Refuses {A : Type 0} (numbers : List ℕ) (o : Outcome A) : Type 0 where

@@ -3,11 +3,11 @@ use mathlib.Core.Path.{_≡_}
 use mathlib.Core.Bool.{true}
 use Rattle.store.specs.Le.{AreBytes}
 use Rattle.page.specs.Pool.{goodPool}
-use Rattle.grow.specs.Grow.{Grown}
-use Rattle.shapes.specs.Shape.{Shape, WellFormed}
-use Rattle.shapes.specs.View.{view}
-use Rattle.reads.specs.Answer.{done}
-use Rattle.reads.specs.Check.{checkCall}
+use Rattle.tree_grow.specs.Grow.{Grown}
+use Rattle.theory_tree.specs.Shape.{Shape, WellFormed}
+use Rattle.theory_tree.specs.View.{view}
+use Rattle.call_read.specs.Answer.{done}
+use Rattle.call_read.specs.Check.{checkCall}
 
 -- the pool is bytes and no BadPool, and its pages hold the tree t
 pub record TreeIn (g : Grown) (t : Shape) : Type 0 where

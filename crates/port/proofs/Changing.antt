@@ -9,15 +9,15 @@ use Rattle.page.specs.declared.pool.State.{State}
 use Rattle.row.specs.declared.Stamp.{Stamp}
 use Rattle.row.specs.declared.Pointer.{Pointer}
 use Rattle.mvcc.specs.declared.Current.{Current}
-use Rattle.reads.specs.Answer.{Outcome, Ended, ended}
-use Rattle.writes.specs.Answer.{ofStated}
-use Rattle.writes.specs.Insert.{insertCall, insertVersionCall}
-use Rattle.writes.specs.declared.Stated.{Stated}
-use Rattle.claims.specs.Mark.{markCall, markPlainCall, deleteCall}
-use Rattle.claims.specs.Claim.{claimCall}
-use Rattle.cleans.specs.Answer.{ofDropped}
-use Rattle.cleans.specs.Remove.{removeCall}
-use Rattle.cleans.specs.declared.Dropped.{Dropped}
+use Rattle.call_read.specs.Answer.{Outcome, Ended, ended}
+use Rattle.call_insert.specs.Answer.{ofStated}
+use Rattle.call_insert.specs.Insert.{insertCall, insertVersionCall}
+use Rattle.call_insert.specs.declared.Stated.{Stated}
+use Rattle.call_stamp.specs.Mark.{markCall, markPlainCall, deleteCall}
+use Rattle.call_stamp.specs.Claim.{claimCall}
+use Rattle.call_clean.specs.Answer.{ofDropped}
+use Rattle.call_clean.specs.Remove.{removeCall}
+use Rattle.call_clean.specs.declared.Dropped.{Dropped}
 use Rattle.port.specs.Words.{stampOf, pointerOf, stateWords, countWords, Called, called, given, calledPool, givenPool}
 use Rattle.port.proofs.Giving.{set-put, two-words}
 

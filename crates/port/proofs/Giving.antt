@@ -15,16 +15,16 @@ use Rattle.row.specs.declared.Stamp.{Stamp}
 use Rattle.row.specs.declared.Pointer.{Pointer}
 use Rattle.row.specs.declared.Version.{Version}
 use Rattle.mvcc.specs.declared.Current.{Current}
-use Rattle.listing.specs.Listed.{Written, written}
-use Rattle.reads.specs.Answer.{Outcome, ofCreated, ofFound, ofTold, ofListed}
-use Rattle.reads.specs.Find.{findVisibleCall, findCall}
-use Rattle.reads.specs.Conflict.{conflictCall}
-use Rattle.reads.specs.Listings.{versionsOfCall}
-use Rattle.reads.specs.Scan.{scanVisibleCall}
-use Rattle.reads.specs.declared.Created.{Created}
-use Rattle.reads.specs.declared.Found.{Found}
-use Rattle.reads.specs.declared.Told.{Told}
-use Rattle.reads.specs.declared.Listed.{Listed}
+use Rattle.list_records.specs.Listed.{Written, written}
+use Rattle.call_read.specs.Answer.{Outcome, ofCreated, ofFound, ofTold, ofListed}
+use Rattle.call_read.specs.Find.{findVisibleCall, findCall}
+use Rattle.call_read.specs.Conflict.{conflictCall}
+use Rattle.call_read.specs.Listings.{versionsOfCall}
+use Rattle.call_read.specs.Scan.{scanVisibleCall}
+use Rattle.call_read.specs.declared.Created.{Created}
+use Rattle.call_read.specs.declared.Found.{Found}
+use Rattle.call_read.specs.declared.Told.{Told}
+use Rattle.call_read.specs.declared.Listed.{Listed}
 use Rattle.port.specs.Words.{currentOf, stampWords, pointerWords, versionWords, stateWords, flagWords, countWords, Called, called, given, calledList, givenList}
 
 -- ---- stores of words

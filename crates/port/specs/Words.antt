@@ -10,8 +10,8 @@ use Rattle.row.specs.declared.Stamp.{Stamp}
 use Rattle.row.specs.declared.Pointer.{Pointer}
 use Rattle.row.specs.declared.Version.{Version}
 use Rattle.mvcc.specs.declared.Current.{Current}
-use Rattle.listing.specs.Listed.{Written}
-use Rattle.reads.specs.Answer.{Outcome, Value, value, nothing, Ended}
+use Rattle.list_records.specs.Listed.{Written}
+use Rattle.call_read.specs.Answer.{Outcome, Value, value, nothing, Ended}
 
 -- a state goes in as two numbers, a current transaction as a flag and a number
 abbrev pub stateOf : (root used : ℕ) → State

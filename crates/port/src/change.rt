@@ -1,22 +1,22 @@
 // The writing calls as the booking server makes them (document 01, sections 6 and 9): the new state, or the versions dropped,
-// comes back as words at the start of the lent array. Each call is the one of `writes`, `claims` or `cleans` that it names.
+// comes back as words at the start of the lent array. Each call is the one of `call_insert`, `call_stamp` or `call_clean` that it names.
 ghost use mathlib.Core.Path.{_≡_};
 ghost use lib.ListN.{length};
 ghost use Rattle.page.specs.Key.{rankOf};
-ghost use Rattle.writes.specs.Answer.{ofStated};
-ghost use Rattle.writes.specs.Insert.{insertCall, insertVersionCall};
-ghost use Rattle.claims.specs.Mark.{markCall, markPlainCall, deleteCall};
-ghost use Rattle.claims.specs.Claim.{claimCall};
-ghost use Rattle.cleans.specs.Answer.{ofDropped};
-ghost use Rattle.cleans.specs.Remove.{removeCall};
-ghost use Rattle.cleans.specs.Vacuum.{vacuumCall};
+ghost use Rattle.call_insert.specs.Answer.{ofStated};
+ghost use Rattle.call_insert.specs.Insert.{insertCall, insertVersionCall};
+ghost use Rattle.call_stamp.specs.Mark.{markCall, markPlainCall, deleteCall};
+ghost use Rattle.call_stamp.specs.Claim.{claimCall};
+ghost use Rattle.call_clean.specs.Answer.{ofDropped};
+ghost use Rattle.call_clean.specs.Remove.{removeCall};
+ghost use Rattle.call_clean.specs.Vacuum.{vacuumCall};
 ghost use Rattle.port.specs.Words.{stateOf, currentOf, stampOf, pointerOf, stateWords, countWords, called, given, calledPool, givenPool};
 use crate::current_of;
-use cleans::Dropped;
+use call_clean::Dropped;
+use call_insert::Stated;
 use page::pool::State;
 use row::Pointer;
 use row::Stamp;
-use writes::Stated;
 
 fn stamp_of(has: bool, tx: u64) -> Stamp
     ensures { λ r. ⌜ r ≡ stampOf has tx ⌝ }
@@ -82,7 +82,7 @@ pub extern "C" fn erbulonge_insert(
     let cur = current_of(has_current, current);
     give_stated(
         answer,
-        writes::insert(pool, st, key, body, cur, ids, states),
+        call_insert::insert(pool, st, key, body, cur, ids, states),
     )
 }
 
@@ -108,7 +108,7 @@ pub extern "C" fn erbulonge_insert_version(
     let pointer = pointer_of(has_pointer, page, slot);
     give_stated(
         answer,
-        writes::insert_version(pool, st, key, creator, stamp, pointer, body),
+        call_insert::insert_version(pool, st, key, creator, stamp, pointer, body),
     )
 }
 
@@ -133,7 +133,7 @@ pub extern "C" fn erbulonge_mark_deleted_visible(
     let cur = current_of(has_current, current);
     give_stated(
         answer,
-        claims::mark_deleted_visible(pool, st, key, deleter, xmax, active, cur, ids, states),
+        call_stamp::mark_deleted_visible(pool, st, key, deleter, xmax, active, cur, ids, states),
     )
 }
 
@@ -156,7 +156,7 @@ pub extern "C" fn erbulonge_mark_deleted(
     let cur = current_of(has_current, current);
     give_stated(
         answer,
-        claims::mark_deleted(pool, st, key, deleter, cur, ids, states),
+        call_stamp::mark_deleted(pool, st, key, deleter, cur, ids, states),
     )
 }
 
@@ -176,7 +176,7 @@ pub extern "C" fn erbulonge_delete(
 {
     let st = State { root, used };
     let cur = current_of(has_current, current);
-    give_stated(answer, claims::delete(pool, st, key, cur, ids, states))
+    give_stated(answer, call_stamp::delete(pool, st, key, cur, ids, states))
 }
 
 #[no_mangle]
@@ -199,7 +199,7 @@ pub extern "C" fn erbulonge_claim(
     let cur = current_of(has_current, current);
     give_stated(
         answer,
-        claims::claim(pool, st, key, xmax, active, cur, ids, states),
+        call_stamp::claim(pool, st, key, xmax, active, cur, ids, states),
     )
 }
 
@@ -214,7 +214,7 @@ pub extern "C" fn erbulonge_remove_all_versions(
     ensures { λ n. ⌜ calledPool n (now (answer .exit)) (now (pool .exit)) ≡ givenPool countWords (removeCall (now (pool .entry)) (stateOf root used) (rankOf key)) (now (answer .entry)) ⌝ }
 {
     let st = State { root, used };
-    give_dropped(answer, cleans::remove_all_versions(pool, st, key))
+    give_dropped(answer, call_clean::remove_all_versions(pool, st, key))
 }
 
 #[no_mangle]
@@ -232,6 +232,6 @@ pub extern "C" fn erbulonge_vacuum_deleted_versions(
     let st = State { root, used };
     give_dropped(
         answer,
-        cleans::vacuum_deleted_versions(pool, st, bound, ids, states),
+        call_clean::vacuum_deleted_versions(pool, st, bound, ids, states),
     )
 }

@@ -1,27 +1,27 @@
 // What the booking server calls in-process (document 01, sections 6 and 9): numbers and slices in, the answer's number
 // back, what Done gives as words at the start of a lent array, a listing in a lent output. Each call here is the one of
-// `reads` that it names; module change has the writing calls.
+// `call_read` that it names; module change has the writing calls.
 pub mod change;
 
 ghost use mathlib.Core.Path.{_≡_};
 ghost use lib.ListN.{length};
 ghost use Rattle.store.specs.Part.{put};
 ghost use Rattle.page.specs.Key.{rankOf};
-ghost use Rattle.reads.specs.Answer.{ofCreated, ofFound, ofTold, ofListed};
-ghost use Rattle.reads.specs.Check.{checkCall};
-ghost use Rattle.reads.specs.Conflict.{conflictCall};
-ghost use Rattle.reads.specs.Create.{createCall, createAfter};
-ghost use Rattle.reads.specs.Find.{findVisibleCall, findCall};
-ghost use Rattle.reads.specs.Listings.{versionsOfCall, allVersionsCall};
-ghost use Rattle.reads.specs.Numbers.{pageNumbersCall};
-ghost use Rattle.reads.specs.Scan.{scanVisibleCall};
+ghost use Rattle.call_read.specs.Answer.{ofCreated, ofFound, ofTold, ofListed};
+ghost use Rattle.call_read.specs.Check.{checkCall};
+ghost use Rattle.call_read.specs.Conflict.{conflictCall};
+ghost use Rattle.call_read.specs.Create.{createCall, createAfter};
+ghost use Rattle.call_read.specs.Find.{findVisibleCall, findCall};
+ghost use Rattle.call_read.specs.Listings.{versionsOfCall, allVersionsCall};
+ghost use Rattle.call_read.specs.Numbers.{pageNumbersCall};
+ghost use Rattle.call_read.specs.Scan.{scanVisibleCall};
 ghost use Rattle.port.specs.Words.{stateOf, currentOf, stampWords, pointerWords, versionWords, stateWords, flagWords, countWords, called, given, calledList, givenList};
+use call_read::Created;
+use call_read::Found;
+use call_read::Listed;
+use call_read::Told;
 use mvcc::Current;
 use page::pool::State;
-use reads::Created;
-use reads::Found;
-use reads::Listed;
-use reads::Told;
 use row::Pointer;
 use row::Stamp;
 use row::Version;
@@ -145,14 +145,14 @@ pub extern "C" fn erbulonge_create(
     ensures { λ n. ⌜ called n (now (answer .exit)) ≡ given stateWords (createCall (now (pool .entry)) (stateOf root used)) (now (answer .entry)) ⌝ }
     ensures { λ _. ⌜ now (pool .exit) ≡ createAfter (now (pool .entry)) (stateOf root used) ⌝ }
 {
-    give_created(answer, reads::create(pool, State { root, used }))
+    give_created(answer, call_read::create(pool, State { root, used }))
 }
 
 #[no_mangle]
 pub extern "C" fn erbulonge_check(pool: &[u8], root: u32, used: u32, answer: &mut [u64; 8]) -> u8
     ensures { λ n. ⌜ called n (now (answer .exit)) ≡ given flagWords (checkCall (now (pool .entry)) (stateOf root used)) (now (answer .entry)) ⌝ }
 {
-    give_told(answer, reads::check(pool, State { root, used }))
+    give_told(answer, call_read::check(pool, State { root, used }))
 }
 
 #[no_mangle]
@@ -175,7 +175,7 @@ pub extern "C" fn erbulonge_find_visible(
     let cur = current_of(has_current, current);
     give_found(
         answer,
-        reads::find_visible(pool, st, key, xmax, active, cur, ids, states),
+        call_read::find_visible(pool, st, key, xmax, active, cur, ids, states),
     )
 }
 
@@ -195,7 +195,7 @@ pub extern "C" fn erbulonge_find(
 {
     let st = State { root, used };
     let cur = current_of(has_current, current);
-    give_found(answer, reads::find(pool, st, key, cur, ids, states))
+    give_found(answer, call_read::find(pool, st, key, cur, ids, states))
 }
 
 #[no_mangle]
@@ -217,7 +217,7 @@ pub extern "C" fn erbulonge_has_write_conflict(
     let cur = current_of(has_current, current);
     give_told(
         answer,
-        reads::has_write_conflict(pool, st, key, seen, xmax, active, cur),
+        call_read::has_write_conflict(pool, st, key, seen, xmax, active, cur),
     )
 }
 
@@ -233,7 +233,7 @@ pub extern "C" fn erbulonge_versions_of(
     ensures { λ n. ⌜ calledList n (now (answer .exit)) (now (out .exit)) ≡ givenList (versionsOfCall (now (pool .entry)) (stateOf root used) (rankOf key) (now (out .entry))) (now (answer .entry)) ⌝ }
 {
     let st = State { root, used };
-    give_listed(answer, reads::versions_of(pool, st, key, out))
+    give_listed(answer, call_read::versions_of(pool, st, key, out))
 }
 
 #[no_mangle]
@@ -247,7 +247,7 @@ pub extern "C" fn erbulonge_all_versions(
     ensures { λ n. ⌜ calledList n (now (answer .exit)) (now (out .exit)) ≡ givenList (allVersionsCall (now (pool .entry)) (stateOf root used) (now (out .entry))) (now (answer .entry)) ⌝ }
 {
     let st = State { root, used };
-    give_listed(answer, reads::all_versions(pool, st, out))
+    give_listed(answer, call_read::all_versions(pool, st, out))
 }
 
 #[no_mangle]
@@ -270,7 +270,7 @@ pub extern "C" fn erbulonge_scan_visible(
     let cur = current_of(has_current, current);
     give_listed(
         answer,
-        reads::scan_visible(pool, st, xmax, active, cur, ids, states, out),
+        call_read::scan_visible(pool, st, xmax, active, cur, ids, states, out),
     )
 }
 
@@ -285,5 +285,5 @@ pub extern "C" fn erbulonge_page_numbers(
     ensures { λ n. ⌜ calledList n (now (answer .exit)) (now (out .exit)) ≡ givenList (pageNumbersCall (now (pool .entry)) (stateOf root used) (now (out .entry))) (now (answer .entry)) ⌝ }
 {
     let st = State { root, used };
-    give_listed(answer, reads::page_numbers(pool, st, out))
+    give_listed(answer, call_read::page_numbers(pool, st, out))
 }

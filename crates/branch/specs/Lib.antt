@@ -1,3 +1,0 @@
--- What a reader of the contracts of `branch` has to believe.
-pub mod Edit
-pub mod Facts

@@ -1,0 +1,107 @@
+-- The ways out of the walks that store, one law each: what is left to do, from the pool as it is now, gives what all of it
+-- gives. Assumes nothing.
+use mathlib.Core.Path.{_≡_, refl, sym, _∙_}
+use mathlib.Core.Bool.{Bool, true, false}
+use mathlib.Core.List.{List}
+use Prim.Native.Nat.{ℕ, zero, suc, _+_, _-_, _*_, _≤_, _<_}
+use native.Mathlib.Omega.{arith}
+use borrow.Author.Tests.{lt-ltb, le-ltb, eq-eqb, ne-eqb}
+use borrow.Rule.Slice.PartMut.{putMid}
+use Rattle.page.specs.Page.{page, setPage}
+use Rattle.page.specs.Header.{cellCount, nextLeaf}
+use Rattle.page.proofs.PageLaws.{back-page}
+use Rattle.row.specs.declared.Fault.{Fault}
+use Rattle.leaf.specs.Cells.{judgeLeaf}
+use Rattle.leaf.specs.Find.{runLeaf}
+use Rattle.leaf.specs.declared.Judged.{Judged}
+use Rattle.leaf.specs.declared.find.Run.{Run}
+use Rattle.leaf.specs.declared.find.LeafRun.{LeafRun}
+use Rattle.leaf_edit.specs.Edit.{without}
+use Rattle.leaf_vacuum.specs.declared.Vacuumed.{Vacuumed}
+use Rattle.call_read.specs.Answer.{ended}
+use Rattle.call_clean.specs.Remove.{withoutRun, removedAlong}
+use Rattle.call_clean.specs.Vacuum.{sweptLeaf, vacuumedAlong}
+
+-- what the pool is when the lent page p has come back as x
+pub page-made : (p : ℕ) (s : List ℕ) {y x : List ℕ} → y ≡ x → putMid (p * 4096) (p * 4096 + 4096 - p * 4096) s y ≡ setPage p x s
+page-made p s {y} {x} e = back-page p s y ∙ rw e
+
+-- ---- a leaf without its cells of a key
+
+module _ (run : Run) (e : ℕ) (pg : List ℕ) where
+  pub run-none : run .count ≡ 0 → pg ≡ withoutRun run e pg
+  run-none z = rw (eq-eqb (run .count) 0 z)
+
+  pub run-some : {n : ℕ} {t : List ℕ} → (run .count ≡ 0 → ⊥) → n ≡ cellCount pg → t ≡ without (run .from) (run .to) (run .count) e n pg → t ≡ withoutRun run e pg
+  run-some z q u = u ∙ rw (ne-eqb (run .count) 0 z, q)
+
+-- ---- remove
+
+module _ (used key p : ℕ) (s : List ℕ) where
+  pub remove-none : (m : ℕ) → m ≤ 0 → s ≡ removedAlong used m key p s
+  unfolding removedAlong
+  remove-none zero h = refl
+  remove-none (suc m) h = absurd (omega arith)
+
+  pub remove-unused : (m : ℕ) → used ≤ p → s ≡ removedAlong used m key p s
+  unfolding removedAlong
+  remove-unused zero h = refl
+  remove-unused (suc m) h = rw (le-ltb p used h)
+
+  module _ (h : p < used) {r : LeafRun} (said : r ≡ runLeaf p key (page p s)) where
+    pub remove-bad : (m : ℕ) {f : Fault} → r ≡ LeafRun.Bad f → s ≡ removedAlong used m key p s
+    unfolding removedAlong
+    remove-bad zero e = refl
+    remove-bad (suc m) e = rw (lt-ltb p used h, sym said ∙ e)
+
+    module _ {run : Run} {e : ℕ} {larger : Bool} (good : r ≡ LeafRun.Ok run e larger) {t : List ℕ} (made : t ≡ setPage p (withoutRun run e (page p s)) s) where
+      pub remove-last : (m : ℕ) → 0 < m → larger ≡ true → t ≡ removedAlong used m key p s
+      unfolding removedAlong
+      remove-last zero z l = absurd (omega arith)
+      remove-last (suc m) z l = made ∙ rw (lt-ltb p used h, sym said ∙ good, l)
+
+      module _ {n : ℕ} (next : n ≡ nextLeaf (page p s)) where
+        pub remove-end : (m : ℕ) → 0 < m → larger ≡ false → n ≡ 0 → t ≡ removedAlong used m key p s
+        unfolding removedAlong
+        remove-end zero z l q = absurd (omega arith)
+        remove-end (suc m) z l q = made ∙ rw (lt-ltb p used h, sym said ∙ good, l, eq-eqb (nextLeaf (page p s)) 0 (sym next ∙ q))
+
+        pub remove-on : (m : ℕ) → 0 < m → larger ≡ false → (n ≡ 0 → ⊥) → removedAlong used (m - 1) key n t ≡ removedAlong used m key p s
+        unfolding removedAlong
+        remove-on zero z l q = absurd (omega arith)
+        remove-on (suc m) z l q =
+            let k : suc m - 1 ≡ m = omega arith in
+            rw (lt-ltb p used h, sym said ∙ good, l, ne-eqb (nextLeaf (page p s)) 0 (λ u. q (next ∙ u)), k, next, made)
+
+-- ---- vacuum
+
+module _ (st : ℕ → ℕ) (bound used d p : ℕ) (s : List ℕ) where
+  pub vacuum-none : (m : ℕ) → m ≤ 0 → ended d s ≡ vacuumedAlong st bound used m d p s
+  unfolding vacuumedAlong
+  vacuum-none zero h = refl
+  vacuum-none (suc m) h = absurd (omega arith)
+
+  pub vacuum-unused : (m : ℕ) → used ≤ p → ended d s ≡ vacuumedAlong st bound used m d p s
+  unfolding vacuumedAlong
+  vacuum-unused zero h = refl
+  vacuum-unused (suc m) h = rw (le-ltb p used h)
+
+  module _ (h : p < used) {r : Judged} (said : r ≡ judgeLeaf p (page p s)) where
+    pub vacuum-bad : (m : ℕ) {f : Fault} → r ≡ Judged.Bad f → ended d s ≡ vacuumedAlong st bound used m d p s
+    unfolding vacuumedAlong
+    vacuum-bad zero e = refl
+    vacuum-bad (suc m) e = rw (lt-ltb p used h, sym said ∙ e)
+
+    module _ {e : ℕ} (good : r ≡ Judged.Ok e) {w : Vacuumed} (told : w ≡ sweptLeaf st bound e (page p s) .told) {t : List ℕ}
+        (made : t ≡ setPage p (sweptLeaf st bound e (page p s) .page) s) {n : ℕ} (next : n ≡ nextLeaf (page p s)) where
+      pub vacuum-end : (m : ℕ) → 0 < m → n ≡ 0 → ended (d + w .dropped) t ≡ vacuumedAlong st bound used m d p s
+      unfolding vacuumedAlong
+      vacuum-end zero z q = absurd (omega arith)
+      vacuum-end (suc m) z q = rw (told, made, lt-ltb p used h, sym said ∙ good, eq-eqb (nextLeaf (page p s)) 0 (sym next ∙ q))
+
+      pub vacuum-on : (m : ℕ) → 0 < m → (n ≡ 0 → ⊥) → vacuumedAlong st bound used (m - 1) (d + w .dropped) n t ≡ vacuumedAlong st bound used m d p s
+      unfolding vacuumedAlong
+      vacuum-on zero z q = absurd (omega arith)
+      vacuum-on (suc m) z q =
+          let k : suc m - 1 ≡ m = omega arith in
+          rw (told, made, lt-ltb p used h, sym said ∙ good, ne-eqb (nextLeaf (page p s)) 0 (λ u. q (next ∙ u)), k, next)

@@ -1,0 +1,2 @@
+-- Laws of `call_insert` for its own proofs.
+pub mod Calls

@@ -1,0 +1,56 @@
+-- Insert and insert version (document 01, sections 4 to 6). What either would do is judged on the unchanged pool, and only
+-- then stored; `..Run` also says the fault behind a BadTree, and the call hides it.
+use mathlib.Core.List.{List}
+use Prim.Native.Nat.{ℕ}
+use lib.Dec.{leb}
+use lib.ListN.{length}
+use Rattle.store.specs.Pick.{pick}
+use Rattle.page.specs.Pool.{goodPool}
+use Rattle.page.specs.declared.pool.State.{State}
+use Rattle.row.specs.Write.{cellSize, cellBytes}
+use Rattle.row.specs.declared.Stamp.{Stamp}
+use Rattle.row.specs.declared.Pointer.{Pointer}
+use Rattle.mvcc.specs.Lists.{goodStatuses}
+use Rattle.mvcc.specs.declared.Current.{Current}
+use Rattle.tree_grow.specs.Grow.{grown}
+use Rattle.tree_insert.specs.Insert.{insertedAt}
+use Rattle.tree_room.specs.Room.{noFault}
+use Rattle.tree_insert.specs.Ready.{notReady, onReady, versionAt, creatorOf, newAt}
+use Rattle.tree_insert.specs.declared.ready.Ready.{Ready}
+use Rattle.call_read.specs.Answer.{Outcome, Ended}
+use Rattle.call_insert.specs.Answer.{changedTo, stays, hideEnd}
+use Rattle.call_insert.specs.declared.Changed.{Changed}
+
+-- ---- insert version
+
+-- 1, 5, 2, 9, 11, 10
+unfoldable pub versionReady : List ℕ → State → (key creator : ℕ) → Stamp → Pointer → (len : ℕ) → Ready
+versionReady s st key creator stamp pointer len =
+    pick (goodPool s st) (pick (leb len 4051) (versionAt s st key creator (cellSize stamp pointer len)) (notReady 5 noFault)) (notReady 1 noFault)
+
+-- "A new version goes after equals of its key and creator"
+unfoldable pub insertVersionRun : List ℕ → State → (key creator : ℕ) → Stamp → Pointer → (body : List ℕ) → Ended Changed
+insertVersionRun s st key creator stamp pointer body =
+    onReady (λ x plan. changedTo (insertedAt x plan (cellBytes key creator stamp pointer body) (grown s st))) (stays s)
+    (versionReady s st key creator stamp pointer (length body))
+
+unfoldable pub insertVersionCall : List ℕ → State → (key creator : ℕ) → Stamp → Pointer → (body : List ℕ) → Ended (Outcome State)
+insertVersionCall s st key creator stamp pointer body = hideEnd (insertVersionRun s st key creator stamp pointer body)
+
+-- ---- insert
+
+-- 1, 4, 5, 2, 6, 9, 11, 10
+unfoldable pub insertReady : List ℕ → State → (key : ℕ) → Current → (ids states : List ℕ) → (len : ℕ) → Ready
+insertReady s st key cur ids states len =
+    pick (goodPool s st)
+    (pick (goodStatuses ids states) (pick (leb len 4051) (newAt s st key cur ids states (cellSize Stamp.Absent Pointer.Absent len)) (notReady 5 noFault)) (notReady 4 noFault))
+    (notReady 1 noFault)
+
+-- the new version is live and points to none
+unfoldable pub insertRun : List ℕ → State → (key : ℕ) → (body : List ℕ) → Current → (ids states : List ℕ) → Ended Changed
+insertRun s st key body cur ids states =
+    onReady (λ x plan. changedTo (insertedAt x plan (cellBytes key (creatorOf cur) Stamp.Absent Pointer.Absent body) (grown s st))) (stays s)
+    (insertReady s st key cur ids states (length body))
+
+unfoldable pub insertCall : List ℕ → State → (key : ℕ) → (body : List ℕ) → Current → (ids states : List ℕ) → Ended (Outcome State)
+insertCall s st key body cur ids states = hideEnd (insertRun s st key body cur ids states)

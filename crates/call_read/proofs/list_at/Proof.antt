@@ -1,0 +1,40 @@
+-- `call_read::list_at` meets its contract: each way out is one law of ListCalls. Assumes nothing.
+use mathlib.Core.Path.{sym, _∙_}
+use Rattle.page.proofs.PoolLaws.{pool-is}
+use Rattle.call_read.proofs.ListCalls.{list-pool, list-run}
+use borrow.Author.Needs.{needs}
+use Rattle.call_read.proofs.list_at.Statement.{statement}
+use Rattle.call_read.proofs.list_at.Tie as tie
+
+pool-is-good-requires : tie.Need-pool-is-good-requires
+pool-is-good-requires c κs = search needs
+
+list-tree-requires : tie.Need-list-tree-requires
+list-tree-requires c κs = pool-is _ _ (sym (c .before .before .pool-is-good .ensures) ∙ (c .before .if1 .taken)) .room
+
+listed-at-requires : tie.Need-listed-at-requires
+listed-at-requires c κs = search needs
+
+same-length : tie.Need-same-length
+same-length c = search needs
+
+returns : tie.Need-returns
+returns c = list-run _ _ _ _ (c .before .before .before .before .before .before .pool-is-good .ensures) (c .before .before .before .before .before .if1 .taken) (c .before .before .before .list-tree .ensures) (c .listed-at .ensures)
+
+plain-refusal-requires : tie.Need-plain-refusal-requires
+plain-refusal-requires c κs = search needs
+
+returns-2 : tie.Need-returns-2
+returns-2 c = list-pool _ _ _ _ (c .before .before .pool-is-good .ensures) (c .before .if1 .left) (c .plain-refusal .ensures)
+
+pub list-at-spec : {M : Type 1} → statement M
+list-at-spec =
+    tie.close
+    (tie.spec
+    pool-is-good-requires
+    list-tree-requires
+    listed-at-requires
+    same-length
+    returns
+    plain-refusal-requires
+    returns-2)

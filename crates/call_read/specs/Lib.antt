@@ -1,0 +1,11 @@
+-- What a reader of the contracts of `call_read` has to believe.
+pub mod Answer
+pub mod AnswerFacts
+pub mod Create
+pub mod Find
+pub mod Conflict
+pub mod Check
+pub mod Listings
+pub mod Numbers
+pub mod Scan
+pub mod Facts

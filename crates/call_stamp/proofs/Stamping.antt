@@ -1,0 +1,139 @@
+-- A lookup that finds a version has judged the pool and the lists, and met the version in its leaf; and a stamp whose
+-- judgement is ok can be stored. Assumes nothing.
+use mathlib.Core.Path.{_≡_, refl, sym, _∙_, subst}
+use mathlib.Core.Bool.{Bool, true, false}
+use mathlib.Core.List.{List}
+use Prim.Native.Nat.{ℕ, _/_}
+use native.Mathlib.Omega.{arith}
+use lib.Dec.{eqb}
+use lib.ListN.{length}
+use borrow.Author.Tests.{eqb-true}
+use Rattle.store.specs.Pick.{pick}
+use Rattle.page.specs.Page.{page}
+use Rattle.page.specs.Pool.{goodPool}
+use Rattle.page.specs.declared.pool.State.{State}
+use Rattle.row.specs.declared.Cell.{Cell}
+use Rattle.mvcc.specs.Lists.{lookup, goodActive, goodStatuses}
+use Rattle.mvcc.specs.declared.Current.{Current}
+use Rattle.leaf.specs.declared.find.Best.{Best}
+use Rattle.tree.specs.Lookup.{bestInTree}
+use Rattle.tree.specs.declared.ChainBest.{ChainBest}
+use Rattle.tree.specs.declared.ChainTest.{ChainTest}
+use Rattle.tree_room.specs.Room.{noFault, planned, roomOf}
+use Rattle.tree_room.specs.declared.Planned.{Planned}
+use Rattle.tree_room.proofs.Telling.{plan-told}
+use Rattle.tree_insert.specs.Ready.{creatorOf}
+use Rattle.tree_stamp.specs.Target.{targetOf, Met}
+use Rattle.tree_stamp.specs.Stamp.{bytesStamped, stampPlan}
+use Rattle.tree_stamp.specs.Ready.{marking, notMarking, onTest, markingAt}
+use Rattle.tree_stamp.specs.declared.Target.{Target}
+use Rattle.tree_stamp.specs.declared.ready.Marking.{Marking}
+use Rattle.tree_stamp.proofs.Meeting.{best-met}
+use Rattle.call_read.specs.Find.{plain, lookedBest, findVisibleRun}
+use Rattle.call_read.specs.declared.Looked.{Looked}
+use Rattle.call_stamp.specs.Mark.{onLooked, conflictTold, Stampable, markReady}
+use Rattle.call_stamp.specs.Claim.{claimReady}
+
+-- ---- what a lookup that finds says
+
+pub record Finds (s : List ℕ) (st : State) (active ids states : List ℕ) (p : ℕ) (c : Cell) : Type 0 where
+  pub good : goodPool s st ≡ true
+  pub list : goodActive active ≡ true
+  pub statuses : goodStatuses ids states ≡ true
+  pub met : Met (st .used) p c s
+
+module _ (s : List ℕ) (st : State) (key xmax : ℕ) (active : List ℕ) (cur : Current) (ids states : List ℕ) where
+  pub looked-finds : {looked : Looked} {p : ℕ} {c : Cell} → looked ≡ findVisibleRun s st key xmax active cur ids states → looked ≡ Looked.At p c
+      → Finds s st active ids states p c
+  unfolding findVisibleRun
+  looked-finds {looked} {p} {c} is h = by-pool (goodPool s st) (goodActive active) (goodStatuses ids states) refl refl refl (rw is at h)
+    where
+      by-best : (y : ChainBest) → bestInTree (lookup ids states) active xmax cur (st .used) (st .root) key s ≡ y → lookedBest y ≡ Looked.At p c → Met (st .used) p c s
+      by-best (ChainBest.Ok (Best.At q d)) e u =
+          let a : q ≡ p = cc in
+          let b : d ≡ c = cc in
+          subst (λ (x : Cell). Met (st .used) p x s) b (subst (λ (x : ℕ). Met (st .used) x d s) a (best-met (lookup ids states) active xmax cur (st .used) key s (st .root) e))
+      by-best (ChainBest.Ok Best.Nothing) e u = absurd (let z : _≡_ {A = ℕ} 0 1 = cc in omega arith)
+      by-best (ChainBest.Bad f) e u = absurd (let z : _≡_ {A = ℕ} 0 1 = cc in omega arith)
+
+      by-pool : (a b d : Bool) → goodPool s st ≡ a → goodActive active ≡ b → goodStatuses ids states ≡ d
+          → pick a
+          (pick b (pick d (lookedBest (bestInTree (lookup ids states) active xmax cur (st .used) (st .root) key s)) (Looked.Refused (plain 4))) (Looked.Refused (plain 3)))
+          (Looked.Refused (plain 1))
+          ≡ Looked.At p c
+          → Finds s st active ids states p c
+      by-pool true true true e f g u =
+          record { good = e; list = f; statuses = g; met = by-best (bestInTree (lookup ids states) active xmax cur (st .used) (st .root) key s) refl u }
+      by-pool true true false e f g u = absurd (let z : _≡_ {A = ℕ} 0 1 = cc in omega arith)
+      by-pool true false d e f g u = absurd (let z : _≡_ {A = ℕ} 0 1 = cc in omega arith)
+      by-pool false b d e f g u = absurd (let z : _≡_ {A = ℕ} 0 1 = cc in omega arith)
+
+-- the target that is made of it
+pub target-met : (used : ℕ) (s : List ℕ) (p : ℕ) (c : Cell) {t : Target} → t ≡ targetOf p c (page p s) → Met used p c s
+    → Met used (t .leaf) (t .cell) s × (t ≡ targetOf (t .leaf) (t .cell) (page (t .leaf) s))
+target-met used s p c e m = rw e (m, refl)
+
+-- ---- what a judgement that is ok says
+
+ok-planned : (st : State) (t : Target) (s : List ℕ) → stampPlan st t s .ok ≡ true → stampPlan st t s ≡ planned (stampPlan st t s .plan)
+unfolding stampPlan
+ok-planned st t s = plan-told st (t .leaf) _ _ s
+
+module _ (s : List ℕ) (st : State) (t : Target) (good : goodPool s st ≡ true) (met : Met (st .used) (t .leaf) (t .cell) s)
+    (is : t ≡ targetOf (t .leaf) (t .cell) (page (t .leaf) s)) where
+  at-ok : (test : ChainTest) → markingAt s st test t .ok ≡ true → Stampable s st (markingAt s st test t)
+  unfolding markingAt
+  at-ok test h = by-ok (stampPlan st t s .ok) (stampPlan st t s .plan) (roomOf (length s / 4096) st (bytesStamped t) (stampPlan st t s .plan)) refl refl (λ q. ok-planned st t s q) test h
+    where
+      by-room : (plan : Planned) (n : ℕ) → roomOf (length s / 4096) st (bytesStamped t) plan ≡ n → stampPlan st t s ≡ planned plan → (b : Bool) → eqb n 0 ≡ b
+          → pick b (marking t plan) (notMarking n noFault) .ok ≡ true → Stampable s st (pick b (marking t plan) (notMarking n noFault))
+      by-room plan n r e true q u = record { pool = good; met = met; is = is; plans = e; fits = r ∙ eqb-true n 0 q }
+      by-room plan n r e false q u = absurd (let z : _≡_ {A = ℕ} 0 1 = cc in omega arith)
+
+      by-test : (plan : Planned) (n : ℕ) → roomOf (length s / 4096) st (bytesStamped t) plan ≡ n → stampPlan st t s ≡ planned plan → (y : ChainTest)
+          → onTest (notMarking 7 noFault) (pick (eqb n 0) (marking t plan) (notMarking n noFault)) (notMarking 2) y .ok ≡ true
+          → Stampable s st (onTest (notMarking 7 noFault) (pick (eqb n 0) (marking t plan) (notMarking n noFault)) (notMarking 2) y)
+      by-test plan n r e (ChainTest.Ok true) u = absurd (let z : _≡_ {A = ℕ} 0 1 = cc in omega arith)
+      by-test plan n r e (ChainTest.Ok false) u = by-room plan n r e (eqb n 0) refl u
+      by-test plan n r e (ChainTest.Bad f) u = absurd (let z : _≡_ {A = ℕ} 0 1 = cc in omega arith)
+
+      by-ok : (b : Bool) (plan : Planned) (n : ℕ) → stampPlan st t s .ok ≡ b → roomOf (length s / 4096) st (bytesStamped t) plan ≡ n
+          → (stampPlan st t s .ok ≡ true → stampPlan st t s ≡ planned plan) → (y : ChainTest)
+          → pick b (onTest (notMarking 7 noFault) (pick (eqb n 0) (marking t plan) (notMarking n noFault)) (notMarking 2) y) (notMarking 2 (stampPlan st t s .fault)) .ok ≡ true
+          → Stampable s st
+          (pick b (onTest (notMarking 7 noFault) (pick (eqb n 0) (marking t plan) (notMarking n noFault)) (notMarking 2) y) (notMarking 2 (stampPlan st t s .fault)))
+      by-ok true plan n q r e y u = by-test plan n r (e q) y u
+      by-ok false plan n q r e y u = absurd (let z : _≡_ {A = ℕ} 0 1 = cc in omega arith)
+
+module _ (s : List ℕ) (st : State) (key xmax : ℕ) (active : List ℕ) (cur : Current) (ids states : List ℕ) where
+  mark-at : (claiming : Bool) → markReady claiming s st key xmax active cur ids states .ok ≡ true → Stampable s st (markReady claiming s st key xmax active cur ids states)
+  unfolding markReady
+  mark-at claiming h = by-looked (findVisibleRun s st key xmax active cur ids states) refl h
+    where
+      by-looked : (y : Looked) → findVisibleRun s st key xmax active cur ids states ≡ y
+          → onLooked (λ p c. markingAt s st (conflictTold claiming s st key xmax active cur ids states (c .version .creator)) (targetOf p c (page p s)))
+          (λ r. notMarking (r .number) (r .fault)) y .ok
+          ≡ true
+          → Stampable s st
+          (onLooked (λ p c. markingAt s st (conflictTold claiming s st key xmax active cur ids states (c .version .creator)) (targetOf p c (page p s)))
+          (λ r. notMarking (r .number) (r .fault)) y)
+      by-looked (Looked.At p c) e u =
+          let f = looked-finds s st key xmax active cur ids states {looked = Looked.At p c} (sym e) refl in
+          at-ok s st (targetOf p c (page p s)) (f .good) (f .met) refl (conflictTold claiming s st key xmax active cur ids states (c .version .creator)) u
+      by-looked (Looked.Refused r) e u = absurd (let z : _≡_ {A = ℕ} 0 1 = cc in omega arith)
+
+  pub mark-ok : (claiming : Bool) {told : Marking} → told ≡ markReady claiming s st key xmax active cur ids states → told .ok ≡ true → Stampable s st told
+  mark-ok claiming e h = rw e (mark-at claiming (rw e at h))
+
+  claim-at : claimReady s st key xmax active cur ids states .ok ≡ true → Stampable s st (claimReady s st key xmax active cur ids states)
+  unfolding claimReady
+  claim-at h = by-pool (goodPool s st) (eqb (creatorOf cur) 0) h
+    where
+      by-pool : (a b : Bool) → pick a (pick b (notMarking 3 noFault) (markReady true s st key xmax active cur ids states)) (notMarking 1 noFault) .ok ≡ true
+          → Stampable s st (pick a (pick b (notMarking 3 noFault) (markReady true s st key xmax active cur ids states)) (notMarking 1 noFault))
+      by-pool true true u = absurd (let z : _≡_ {A = ℕ} 0 1 = cc in omega arith)
+      by-pool true false u = mark-at true u
+      by-pool false b u = absurd (let z : _≡_ {A = ℕ} 0 1 = cc in omega arith)
+
+  pub claim-ok : {told : Marking} → told ≡ claimReady s st key xmax active cur ids states → told .ok ≡ true → Stampable s st told
+  claim-ok e h = rw e (claim-at (rw e at h))

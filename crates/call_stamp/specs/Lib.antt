@@ -1,0 +1,3 @@
+-- What a reader of the contracts of `call_stamp` has to believe.
+pub mod Mark
+pub mod Claim

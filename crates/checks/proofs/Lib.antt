@@ -1,4 +1,0 @@
--- Laws of `checks` for its own proofs and for the crates above.
-pub mod Parting
-pub mod Linking
-pub mod Checking

@@ -1,3 +1,0 @@
--- Laws of `claims` for its own proofs.
-pub mod Stamping
-pub mod Calls

@@ -1,3 +1,0 @@
--- What a reader of the contracts of `claims` has to believe.
-pub mod Mark
-pub mod Claim

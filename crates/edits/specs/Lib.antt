@@ -1,3 +1,0 @@
--- What a reader of the contracts of `edits` has to believe.
-pub mod Edit
-pub mod EditFacts

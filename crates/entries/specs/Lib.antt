@@ -1,2 +1,0 @@
--- What a reader of the contracts of `entries` has to believe.
-pub mod Entries

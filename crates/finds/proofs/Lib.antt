@@ -1,6 +1,0 @@
--- Laws of `finds` for the crates above.
-pub mod Paging
-pub mod Descending
-pub mod Walking
-pub mod Looking
-pub mod Climbing

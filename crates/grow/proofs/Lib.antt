@@ -1,8 +1,0 @@
--- Laws of `grow` for its own proofs and for the crates above.
-pub mod Entering
-pub mod Pinning
-pub mod Planning
-pub mod Likeness
-pub mod Halving
-pub mod Stepping
-pub mod Framing

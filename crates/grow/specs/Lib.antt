@@ -1,6 +1,0 @@
--- What a reader of the contracts of `grow` has to believe.
-pub mod Path
-pub mod Grow
-pub mod Safe
-pub mod Plan
-pub mod PlanFacts

@@ -1,5 +1,0 @@
--- Laws of `grows` for the crates above.
-pub mod Growing
-pub mod Settling
-pub mod Cases
-pub mod Framing

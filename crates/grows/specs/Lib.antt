@@ -1,2 +1,0 @@
--- What a reader of the theorems of `grows` has to believe.
-pub mod Rooted

@@ -1,4 +1,0 @@
--- What a reader of the contracts of `insert` has to believe.
-pub mod Spot
-pub mod Insert
-pub mod Ready

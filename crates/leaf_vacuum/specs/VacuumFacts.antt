@@ -1,0 +1,23 @@
+-- What is proved of vacuum on a judged leaf: the page is the one with the kept rows, where anything changes, and is left
+-- as it is where nothing does; the count is that of the rows that meet the drop rule beforehand.
+use mathlib.Core.Path.{_≡_}
+use mathlib.Core.Bool.{false}
+use mathlib.Core.List.{List}
+use Prim.Native.Nat.{ℕ}
+use lib.ListN.{length}
+use Rattle.store.specs.Pick.{pick}
+use Rattle.store.specs.Le.{AreBytes}
+use Rattle.page.specs.Header.{cellCount}
+use Rattle.leaf.specs.Cells.{judgeLeaf}
+use Rattle.leaf.specs.Rows.{rows, writeRows}
+use Rattle.leaf.specs.declared.Judged.{Judged}
+use Rattle.leaf_vacuum.specs.Vacuum.{keptRows, droppedRows, changesRows, sweep}
+
+abbrev pub VacuumSweeps : Type 0
+VacuumSweeps =
+    (st : ℕ → ℕ) (bound e : ℕ) (pg : List ℕ) → AreBytes pg → length pg ≡ 4096 → judgeLeaf 0 pg ≡ Judged.Ok e
+    → sweep st bound (cellCount pg) 12 e (cellCount pg) 0 false pg
+    ≡ record {
+      page = pick (changesRows st bound (rows pg)) (writeRows (keptRows st bound (rows pg)) pg) pg;
+      told = record { dropped = droppedRows st bound (rows pg); changed = changesRows st bound (rows pg) };
+    }

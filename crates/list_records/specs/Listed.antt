@@ -1,0 +1,21 @@
+-- How a listing ends (document 01, sections 2 and 6): Short where it is longer than the output; "Done writes only the
+-- listing's bytes at the start of the output"; any other end leaves the output as it was.
+use mathlib.Core.List.{List}
+use Prim.Native.Nat.{ℕ}
+use lib.Dec.{leb}
+use lib.ListN.{length}
+use Rattle.store.specs.Pick.{pick}
+use Rattle.store.specs.Part.{put}
+use Rattle.list_records.specs.declared.Listing.{Listing}
+
+-- an answer, and the output after it
+pub record Written (A : Type 0) : Type 0 where
+  pub answer : A
+  pub output : List ℕ
+
+abbrev pub written : {A : Type 0} → A → List ℕ → Written A
+written a out = record { answer = a; output = out }
+
+-- the listing x into that output
+unfoldable pub fitted : (x out : List ℕ) → Written Listing
+fitted x out = pick (leb (length x) (length out)) (written (Listing.Done (length x)) (put 0 x out)) (written Listing.Short out)

@@ -1,0 +1,76 @@
+-- Two walks along one chain that judge each leaf go on together: what each leaf keeps between what they gathered, the walks
+-- keep; and what each row keeps, the rows of the chain keep. Assumes nothing.
+use mathlib.Core.Path.{_≡_, refl, ap, _∙_}
+use mathlib.Core.Bool.{Bool, true, false}
+use mathlib.Core.List.{List, [], _∷_, _++_, map, append-assoc, append-nil}
+use Prim.Native.Nat.{ℕ, zero, suc, _<_}
+use borrow.Author.Tests.{ltb-true}
+use lib.Dec.{ltb, eqb}
+use Rattle.store.specs.Pick.{pick}
+use Rattle.page.specs.Page.{page}
+use Rattle.page.specs.Header.{cellCount, nextLeaf}
+use Rattle.row.specs.Read.{cellAt}
+use Rattle.row.specs.declared.Cell.{Cell}
+use Rattle.row.specs.declared.read.CellRead.{CellRead}
+use Rattle.row.proofs.Exact.{cell-placed}
+use Rattle.inner.specs.Inner.{structural}
+use Rattle.leaf.specs.Cells.{onCell, cellsOf, cells, foldCells, judgeLeaf, onJudged}
+use Rattle.leaf.specs.Rows.{Row, rowOf, rowsOf, rows}
+use Rattle.leaf.specs.declared.Judged.{Judged}
+use Rattle.tree.specs.Chain.{Seen, go, broken, Told, ok, ill, onSeen, along}
+use Rattle.list_visible.specs.Visible.{lookAll, chainRows}
+
+-- both found the same fault, or Q holds of what they gathered
+abbrev pub Alike : {A B : Type 0} → (A → B → Type 0) → Told A → Told B → Type 0
+Alike Q (ok a) (ok b) = Q a b
+Alike Q (ok a) (ill g) = ⊥
+Alike Q (ill f) (ok b) = ⊥
+Alike Q (ill f) (ill g) = f ≡ g
+
+-- a look at page p of s judges it, and then gathers by f
+abbrev pub Judging : {A : Type 0} → (A → ℕ → List ℕ → Seen A) → (ℕ → A → A) → List ℕ → Type 0
+Judging {A} look f s = (a : A) (p : ℕ) → look a p (page p s) ≡ onJudged (λ e. go (f p a)) (λ g. broken g) (judgeLeaf p (page p s))
+
+-- R may speak of the pages that are left to meet
+module _ {A B : Type 0} (look : A → ℕ → List ℕ → Seen A) (view : B → ℕ → List ℕ → Seen B) (f : ℕ → A → A) (g : ℕ → B → B) (used : ℕ) (s : List ℕ) (ja : Judging look f s) (jb : Judging view g s) (R : ℕ → A → B → Type 0) (Q : A → B → Type 0) (last : (m : ℕ) (a : A) (b : B) → R m a b → Q a b) (keeps : (m p : ℕ) (a : A) (b : B) → p < used → R (suc m) a b → R m (f p a) (g p b)) where
+  pub in-step : (m p : ℕ) (a : A) (b : B) → R m a b → Alike Q (along look used m a p s) (along view used m b p s)
+  unfolding along
+  in-step zero p a b r = refl
+  in-step (suc m) p a b r =
+      rw (ja a p, jb b p) (by-use (ltb p used) refl (judgeLeaf p (page p s)) (eqb (nextLeaf (page p s)) 0) (in-step m (nextLeaf (page p s)) (f p a) (g p b)))
+    where
+      by-use : (t : Bool) → ltb p used ≡ t → (j : Judged) (z : Bool)
+          → (R m (f p a) (g p b) → Alike Q (along look used m (f p a) (nextLeaf (page p s)) s) (along view used m (g p b) (nextLeaf (page p s)) s))
+          → Alike Q
+          (pick t
+          (onSeen (λ d. ok d) (λ d. pick z (ok d) (along look used m d (nextLeaf (page p s)) s)) (λ h. ill h) (onJudged (λ e. go (f p a)) (λ h. broken h) j))
+          (ill (structural p)))
+          (pick t
+          (onSeen (λ d. ok d) (λ d. pick z (ok d) (along view used m d (nextLeaf (page p s)) s)) (λ h. ill h) (onJudged (λ e. go (g p b)) (λ h. broken h) j))
+          (ill (structural p)))
+      by-use false t j z ih = refl
+      by-use true t (Judged.Bad h) z ih = refl
+      by-use true t (Judged.Ok e) true ih = last m (f p a) (g p b) (keeps m p a b (ltb-true p used t) r)
+      by-use true t (Judged.Ok e) false ih = ih (keeps m p a b (ltb-true p used t) r)
+
+-- beside the rows of the chain any fold over the cells
+module _ {B : Type 0} (look : B → ℕ → List ℕ → Seen B) (g : ℕ → B → Cell → B) (used : ℕ) (s : List ℕ) (jb : Judging look (λ p b. foldCells (g p) b (cells (page p s))) s) (P : List Row → B → Type 0) (keeps : (p : ℕ) (c : Cell) (rs : List Row) (b : B) → p < used → cellAt (page p s) (c .at) ≡ CellRead.Got c → P rs b → P (rs ++ (rowOf (page p s) c ∷ [])) (g p b c)) where
+  pub fold-rows : (p : ℕ) → p < used → (n at : ℕ) (rs : List Row) (b : B) → P rs b → P (rs ++ rowsOf n at (page p s)) (foldCells (g p) b (cellsOf n at (page p s)))
+  unfolding cellsOf foldCells
+  fold-rows p h zero at rs b k = rw append-nil k
+  fold-rows p h (suc n) at rs b k = by-read (cellAt (page p s) at) refl (λ c. fold-rows p h n (c .next) (rs ++ (rowOf (page p s) c ∷ [])) (g p b c))
+    where
+      by-read : (r : CellRead) → cellAt (page p s) at ≡ r
+          → ((c : Cell) → P (rs ++ (rowOf (page p s) c ∷ [])) (g p b c)
+          → P ((rs ++ (rowOf (page p s) c ∷ [])) ++ rowsOf n (c .next) (page p s)) (foldCells (g p) (g p b c) (cellsOf n (c .next) (page p s))))
+          → P (rs ++ map (rowOf (page p s)) (onCell (λ c. c ∷ cellsOf n (c .next) (page p s)) (λ kind. []) r)) (foldCells (g p) b (onCell (λ c. c ∷ cellsOf n (c .next) (page p s)) (λ kind. []) r))
+      by-read (CellRead.Bad kind) e ih = rw append-nil k
+      by-read (CellRead.Got c) e ih =
+          rw append-assoc at (ih c (keeps p c rs b h (ap (cellAt (page p s)) (cell-placed (page p s) at c e .here) ∙ e) k))
+
+  pub rows-beside : (p : ℕ) (b : B) → P [] b → Alike P (chainRows used p s) (along look used used b p s)
+  unfolding chainRows
+  rows-beside p b k =
+      in-step lookAll look (λ q rs. rs ++ rows (page q s)) (λ q d. foldCells (g q) d (cells (page q s))) used s (λ a q. refl) jb (λ m. P) P (λ m rs d h. h)
+      (λ m q rs d h. fold-rows q h (cellCount (page q s)) 12 rs d)
+      used p [] b k

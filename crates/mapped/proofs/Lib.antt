@@ -1,6 +1,0 @@
--- Laws of `mapped` for the crates above.
-pub mod Changing
-pub mod Running
-pub mod Removing
-pub mod Vacuuming
-pub mod Framing

@@ -1,1 +1,0 @@
--- The statements are over the definitions of `cleans`, `sweep` and `shapes`; there are none of its own.

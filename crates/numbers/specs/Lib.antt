@@ -1,3 +1,0 @@
--- What a reader of the contracts of `numbers` has to believe.
-pub mod Numbers
-pub mod Table

@@ -1,4 +1,0 @@
--- Laws of `room` for its own proofs and for the crates above.
-pub mod Rooming
-pub mod Keeping
-pub mod Telling

@@ -1,3 +1,0 @@
--- What a reader of the contracts of `sweep` has to believe.
-pub mod Vacuum
-pub mod VacuumFacts

@@ -1,0 +1,2 @@
+-- What the contracts of `test_text` cite.
+pub mod Within

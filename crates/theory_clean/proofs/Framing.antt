@@ -1,0 +1,362 @@
+-- Remove and vacuum store to leaves of their tree, and so change no other page. Assumes nothing.
+use mathlib.Core.Path.{_≡_, refl, sym, ap, _∙_, subst}
+use mathlib.Core.Bool.{Bool, true, false, not}
+use mathlib.Core.List.{List, [], _∷_, _++_, map, map-append, append-nil}
+use mathlib.Core.Logic.{_⊎_, inl, inr}
+use Prim.Native.Nat.{ℕ, zero, suc, _+_, _-_, _*_, _≤_, _<_}
+use native.Mathlib.Omega.{arith}
+use lib.Dec.{leb, eqb}
+use lib.ListN.{length}
+use borrow.Author.Tests.{eqb-true, eqb-false}
+use Rattle.store.specs.Le.{AreBytes}
+use Rattle.store.specs.Pick.{pick}
+use Rattle.page.specs.Header.{cellCount, nextLeaf}
+use Rattle.page.specs.Page.{page, setPage}
+use Rattle.page.specs.Pool.{goodPool}
+use Rattle.page.specs.declared.pool.State.{State}
+use Rattle.page.proofs.PageLaws.{length-page, length-setPage, page-setPage-other}
+use Rattle.page.proofs.PoolLaws.{pool-is}
+use Rattle.row.specs.Write.{stampLen}
+use Rattle.row.specs.declared.Stamp.{Stamp}
+use Rattle.mvcc.specs.Lists.{mem, lookup, goodStatuses}
+use Rattle.mvcc.specs.Vacuum.{fate}
+use Rattle.mvcc.specs.declared.vacuum.Fate.{Fate}
+use Rattle.leaf.specs.Cells.{cells, foldCells}
+use Rattle.leaf.specs.Find.{running, runLeaf}
+use Rattle.leaf.specs.Rows.{Row, rows, rowsBytes, writeRows}
+use Rattle.leaf.specs.declared.find.Run.{Run}
+use Rattle.leaf.specs.declared.find.LeafRun.{LeafRun}
+use Rattle.leaf.proofs.Bytes.{bytes-page}
+use Rattle.leaf.proofs.Chain.{split-at}
+use Rattle.leaf.proofs.Choosing.{any-page}
+use Rattle.leaf.proofs.RowFacts.{rows-fill}
+use Rattle.leaf.proofs.Rowing.{length-rows, endOf}
+use Rattle.leaf_edit.specs.Edit.{without}
+use Rattle.leaf_vacuum.specs.Vacuum.{clearedRow, onFate, keptRows, changesRows}
+use Rattle.leaf_vacuum.proofs.VacuumFacts.{vacuum-sweeps}
+use Rattle.call_read.specs.Answer.{Outcome, Ended}
+use Rattle.call_clean.specs.Remove.{countAlong, withoutRun, removedAlong, removeCall}
+use Rattle.call_clean.specs.Vacuum.{judgedAlong, sweptLeaf, vacuumedAlong, vacuumCall}
+use Rattle.call_clean.specs.declared.remove.ChainCount.{ChainCount}
+use Rattle.call_clean.specs.declared.vacuum.ChainJudged.{ChainJudged}
+use Rattle.call_clean.proofs.Calls.{remove-pool, remove-ill, remove-done, remove-call, vacuum-pool, vacuum-statuses, vacuum-ill, vacuum-done, vacuum-call}
+use Rattle.call_clean.proofs.Storing.{remove-none, remove-last, remove-end, remove-on, vacuum-none, vacuum-end, vacuum-on}
+use Rattle.tree_grow.specs.Safe.{There}
+use Rattle.theory_tree.specs.View.{view}
+use Rattle.theory_tree.specs.Shape.{Shape, leaf, node, pair, pages, first, All, NoneTwice, WellFormed}
+use Rattle.theory_tree.specs.Versions.{only, ofKey}
+use Rattle.theory_tree.proofs.Contexts.{Ctx, top, inL, inR, under, nxtC, Loc}
+use Rattle.theory_tree.proofs.Lists.{all-app, all-left, all-right, all-map, Out, nd-left, nd-right, nd-apart, nd-join, mem-out}
+use Rattle.theory_tree.proofs.Search.{froms-head}
+use Rattle.theory_tree.proofs.Seek.{leafOf}
+use Rattle.theory_tree.proofs.Walk.{locs, froms, froms-plug, headPage, locs-head, Linked, froms-linked}
+use Rattle.theory_tree.proofs.Workers.{larger}
+use Rattle.theory_stores.proofs.Rowing.{rows-long}
+use Rattle.theory_walks.proofs.Descending.{descend-search, descend-first}
+use Rattle.theory_walks.proofs.Looking.{larger-is}
+use Rattle.theory_walks.proofs.Walking.{AtLeaf, at-leaves, froms-zero}
+use Rattle.theory_clean.proofs.Changing.{LeafIs}
+use Rattle.theory_clean.proofs.Running.{only-short, Splits, run-splits, run-out}
+
+-- ---- the leaves that a search meets
+
+abbrev numbers : List Loc → List ℕ
+numbers ls = map (λ (l : Loc). l .page) ls
+
+-- they are pages of the tree, and none twice
+met-each : (P : ℕ → Type 0) (k : ℕ) (t : Shape) (c : Ctx) → All P (pages t) → All P (numbers (froms k t c))
+met-each P k (leaf p rs) c h = h
+met-each P k (node p f) c h = met-each P k f (under p c) (h .1)
+met-each P k (pair a s b) c h =
+    let hb = all-right P (pages a) (pages b) h in
+    by-left (leb k s) (met-each P k a (inL s b c) (all-left P (pages a) (pages b) h)) (met-each P k b (inR a s c) hb)
+    (subst (λ (ls : List Loc). All P (numbers ls)) (froms-zero b (inR a s c)) (met-each P 0 b (inR a s c) hb))
+  where
+    xs : List Loc
+    xs = froms k a (inL s b c)
+
+    ys : List Loc
+    ys = locs b (inR a s c)
+
+    by-left : (z : Bool) → All P (numbers xs) → All P (numbers (froms k b (inR a s c))) → All P (numbers ys) → All P (numbers (pick z (xs ++ ys) (froms k b (inR a s c))))
+    by-left true i j l = rw (map-append (λ (l : Loc). l .page) xs ys) (all-app P (numbers xs) (numbers ys) i l)
+    by-left false i j l = j
+
+met-once : (k : ℕ) (t : Shape) (c : Ctx) → NoneTwice (pages t) → NoneTwice (numbers (froms k t c))
+met-once k (leaf p rs) c d = d
+met-once k (node p f) c d = met-once k f (under p c) (d .1)
+met-once k (pair a s b) c d =
+    let db = nd-right (pages a) (pages b) d in
+    by-left (leb k s) (met-once k a (inL s b c) (nd-left (pages a) (pages b) d)) (met-once k b (inR a s c) db)
+    (subst (λ (ls : List Loc). NoneTwice (numbers ls)) (froms-zero b (inR a s c)) (met-once 0 b (inR a s c) db))
+  where
+    xs : List Loc
+    xs = froms k a (inL s b c)
+
+    ys : List Loc
+    ys = locs b (inR a s c)
+
+    off : (x : ℕ) → Out x (pages b) → Out x (numbers ys)
+    off x o = subst (λ (ls : List Loc). Out x (numbers ls)) (froms-zero b (inR a s c)) (met-each (λ y. x ≡ y → ⊥) 0 b (inR a s c) o)
+
+    apart : All (λ x. Out x (numbers ys)) (numbers xs)
+    apart =
+        met-each (λ x. Out x (numbers ys)) k a (inL s b c) (all-map (λ x. Out x (pages b)) (λ x. Out x (numbers ys)) off (pages a) (nd-apart (pages a) (pages b) d))
+
+    by-left : (z : Bool) → NoneTwice (numbers xs) → NoneTwice (numbers (froms k b (inR a s c))) → NoneTwice (numbers ys)
+        → NoneTwice (numbers (pick z (xs ++ ys) (froms k b (inR a s c))))
+    by-left true i j l = rw (map-append (λ (l : Loc). l .page) xs ys) (nd-join (numbers xs) (numbers ys) i l apart)
+    by-left false i j l = j
+
+first-is : (t : Shape) → leafOf 0 t ≡ first t
+first-is t = sym (froms-head 0 t top 0) ∙ ap (λ (ls : List Loc). headPage ls 0) (froms-zero t top) ∙ locs-head t top 0
+
+-- ---- a walk along them that stores
+
+-- the leaf l as the pool s has it
+record Leaf (used : ℕ) (s : List ℕ) (l : Loc) : Type 0 where
+  low : l .page < used
+  there : There (l .page) s
+  next : nextLeaf (page (l .page) s) ≡ nxtC 0 (l .ctx)
+  end : ℕ
+  is : LeafIs (l .page) end (page (l .page) s)
+
+leaf-of : (used : ℕ) (s : List ℕ) → AreBytes s → used * 4096 ≤ length s → (l : Loc) → AtLeaf s used l → Leaf used s l
+leaf-of used s B room l a =
+    let h : There (l .page) s = omega (arith, room, a .in-use) in
+    record {
+      low = a .in-use;
+      there = h;
+      next = a .says .next;
+      end = a .end;
+      is =
+          record {
+            type = a .says .type;
+            judged = a .judged;
+            sound =
+                record {
+                  bytes = bytes-page (l .page) s B;
+                  whole = length-page (l .page) s h;
+                  judged = any-page (l .page) 0 (a .end) (page (l .page) s) (a .judged);
+                };
+          };
+    }
+
+-- after a store to another page
+leaves-stay : (used p : ℕ) (y s : List ℕ) → There p s → length y ≡ 4096 → (ls : List Loc) → All (Leaf used s) ls → Out p (numbers ls) → All (Leaf used (setPage p y s)) ls
+leaves-stay used p y s h len [] a o = tt
+leaves-stay used p y s h len (l ∷ ls) a o =
+    let e : page (l .page) (setPage p y s) ≡ page (l .page) s = page-setPage-other p y s h len (l .page) (λ q. o .0 (sym q)) in
+    let b = a .0 in
+    let long = length-setPage p y s h len in
+    (record { low = b .low; there = rw long (b .there); next = rw e (b .next); end = b .end; is = rw e (b .is) }, leaves-stay used p y s h len ls (a .1) (o .1))
+
+module _ {A : Type 0} (used : ℕ) (walk : ℕ → A → ℕ → List ℕ → List ℕ) where
+  -- one leaf of the walk: it is stored, and the walk ends or goes on to the next
+  record Turn (m : ℕ) (a : A) (p : ℕ) (s : List ℕ) : Type 0 where
+    made : List ℕ
+    long : length made ≡ 4096
+    ends : (walk (suc m) a p s ≡ setPage p made s)
+        ⊎ ((b : A) × (nextLeaf (page p s) ≡ 0 → ⊥) × (walk (suc m) a p s ≡ walk m b (nextLeaf (page p s)) (setPage p made s)))
+
+  module _ (none : (a : A) (p : ℕ) (s : List ℕ) → walk 0 a p s ≡ s)
+      (turns : (m : ℕ) (a : A) (p e : ℕ) (s : List ℕ) → p < used → LeafIs p e (page p s) → Turn m a p s) where
+    along-off : (x m : ℕ) (a : A) (l : Loc) (ls : List Loc) (s : List ℕ) → NoneTwice (numbers (l ∷ ls)) → All (Leaf used s) (l ∷ ls) → Linked 0 0 (l ∷ ls)
+        → Out x (numbers (l ∷ ls)) → page x (walk m a (l .page) s) ≡ page x s
+    along-off x zero a l ls s d h k o = ap (page x) (none a (l .page) s)
+    along-off x (suc m) a l ls s d h k o = by-end (t .ends) ls d (h .1) k o (along-off x m)
+      where
+        t : Turn m a (l .page) s
+        t = turns m a (l .page) (h .0 .end) s (h .0 .low) (h .0 .is)
+
+        s₁ : List ℕ
+        s₁ = setPage (l .page) (t .made) s
+
+        off : (x ≡ l .page → ⊥) → page x s₁ ≡ page x s
+        off = page-setPage-other (l .page) (t .made) s (h .0 .there) (t .long) x
+
+        by-end : (walk (suc m) a (l .page) s ≡ s₁)
+            ⊎ ((b : A) × (nextLeaf (page (l .page) s) ≡ 0 → ⊥) × (walk (suc m) a (l .page) s ≡ walk m b (nextLeaf (page (l .page) s)) s₁))
+            → (ls : List Loc) → NoneTwice (numbers (l ∷ ls)) → All (Leaf used s) ls → Linked 0 0 (l ∷ ls) → Out x (numbers (l ∷ ls))
+            → ((b : A) (l′ : Loc) (ls′ : List Loc) (s′ : List ℕ) → NoneTwice (numbers (l′ ∷ ls′)) → All (Leaf used s′) (l′ ∷ ls′) → Linked 0 0 (l′ ∷ ls′)
+            → Out x (numbers (l′ ∷ ls′)) → page x (walk m b (l′ .page) s′) ≡ page x s′)
+            → page x (walk (suc m) a (l .page) s) ≡ page x s
+        by-end (inl e) ls d g k o ih = ap (page x) e ∙ off (o .0)
+        by-end (inr e) [] d g k o ih = absurd (e .1 (h .0 .next ∙ k .0))
+        by-end (inr e) (l′ ∷ ls′) d g k o ih =
+            ap (page x) (e .2 ∙ ap (λ (q : ℕ). walk m (e .0) q s₁) (h .0 .next ∙ k .0))
+            ∙ ih (e .0) l′ ls′ s₁ (d .1) (leaves-stay used (l .page) (t .made) s (h .0 .there) (t .long) (l′ ∷ ls′) g (d .0)) (k .1) (o .1)
+            ∙ off (o .0)
+
+    from-off : (x m p : ℕ) (a : A) (ls : List Loc) (s : List ℕ) → ((z : ℕ) → headPage ls z ≡ p) → NoneTwice (numbers ls) → All (Leaf used s) ls → Linked 0 0 ls
+        → Out x (numbers ls) → page x (walk m a p s) ≡ page x s
+    from-off x m p a [] s e d h k o = absurd (let z : _≡_ {A = ℕ} 0 1 = e 0 ∙ sym (e 1) in omega arith)
+    from-off x m p a (l ∷ ls) s e d h k o = ap (λ (q : ℕ). page x (walk m a q s)) (sym (e 0)) ∙ along-off x m a l ls s d h k o
+
+    -- from where search for a key comes to
+    search-off : (s : List ℕ) (root : ℕ) (t : Shape) → WellFormed (view s) root used t → AreBytes s → used * 4096 ≤ length s → (key m : ℕ) (a : A)
+        → (x : ℕ) → Out x (pages t) → page x (walk m a (leafOf key t) s) ≡ page x s
+    search-off s root t w B room key m a x o =
+        let ls = froms key t top in
+        from-off x m (leafOf key t) a ls s (froms-head key t top) (met-once key t top (w .distinct))
+        (all-map (AtLeaf s used) (Leaf used s) (leaf-of used s B room) ls (at-leaves s root used t w ls (froms-plug key t top))) (froms-linked 0 key t top)
+        (met-each (λ q. x ≡ q → ⊥) key t top o)
+
+-- a leaf written anew with rows that take no more room
+written-long : (p e : ℕ) (pg : List ℕ) → LeafIs p e pg → (rs : List Row) → length (rowsBytes rs) ≤ length (rowsBytes (rows pg)) → length (writeRows rs pg) ≡ 4096
+written-long p e pg is rs short =
+    let within = split-at pg e (cells pg) [] (is .sound) (sym (append-nil (cells pg))) .within in
+    rows-long rs pg (is .sound .whole) (omega (arith, short, within, rows-fill pg e (is .sound) .0))
+
+-- ---- remove
+
+module _ (key : ℕ) where
+  abbrev runOf : List ℕ → Run
+  runOf pg = foldCells (running key) (record { from = 12; to = 12; count = 0 }) (cells pg)
+
+  run-long : (p e : ℕ) (pg : List ℕ) → LeafIs p e pg → length (withoutRun (runOf pg) e pg) ≡ 4096
+  run-long p e pg is = rw (r .told) (by-count (eqb (length (r .out)) 0))
+    where
+      r : Splits key 12 (cells pg)
+      r = run-splits key p e pg (is .judged)
+
+      by-count : (b : Bool) → length (pick b pg (without (endOf 12 (r .before)) (endOf (endOf 12 (r .before)) (r .out)) (length (r .out)) e (cellCount pg) pg)) ≡ 4096
+      by-count true = is .sound .whole
+      by-count false =
+          ap (λ (l : List ℕ). length l) (run-out key pg r e (is .sound))
+          ∙ written-long p e pg is (only (λ (x : Row). not (ofKey key x)) (rows pg)) (only-short (λ (x : Row). not (ofKey key x)) (rows pg))
+
+  run-told : (p e : ℕ) (pg : List ℕ) → LeafIs p e pg → runLeaf p key pg ≡ LeafRun.Ok (runOf pg) e (larger key (rows pg))
+  unfolding runLeaf
+  run-told p e pg is = rw (is .judged, larger-is key pg)
+
+  abbrev removal : (used : ℕ) → ℕ → Unit {0} → ℕ → List ℕ → List ℕ
+  removal used m a p s = removedAlong used m key p s
+
+  remove-turns : (used m : ℕ) (a : Unit {0}) (p e : ℕ) (s : List ℕ) → p < used → LeafIs p e (page p s) → Turn used (removal used) m a p s
+  remove-turns used m a p e s low is =
+      record {
+        made = y;
+        long = run-long p e (page p s) is;
+        ends = by-end (larger key (rows (page p s))) refl (eqb (nextLeaf (page p s)) 0) refl;
+      }
+    where
+      y : List ℕ
+      y = withoutRun (runOf (page p s)) e (page p s)
+
+      told : runLeaf p key (page p s) ≡ LeafRun.Ok (runOf (page p s)) e (larger key (rows (page p s)))
+      told = run-told p e (page p s) is
+
+      by-end : (b : Bool) → larger key (rows (page p s)) ≡ b → (z : Bool) → eqb (nextLeaf (page p s)) 0 ≡ z
+          → (removedAlong used (suc m) key p s ≡ setPage p y s)
+          ⊎ (Unit {0} × (nextLeaf (page p s) ≡ 0 → ⊥) × (removedAlong used (suc m) key p s ≡ removedAlong used m key (nextLeaf (page p s)) (setPage p y s)))
+      by-end true l z q = inl (sym (remove-last used key p s low refl told refl (suc m) (omega arith) l))
+      by-end false l true q = inl (sym (remove-end used key p s low refl told refl refl (suc m) (omega arith) l (eqb-true (nextLeaf (page p s)) 0 q)))
+      by-end false l false q =
+          let k : suc m - 1 ≡ m = omega arith in
+          let ne = eqb-false (nextLeaf (page p s)) 0 q in
+          inr (tt, ne, sym (rw k at (remove-on used key p s low refl told refl refl (suc m) (omega arith) l ne)))
+
+-- no page outside the tree changes, whatever the answer
+pub remove-elsewhere : (s : List ℕ) (st : State) (t : Shape) → AreBytes s → WellFormed (view s) (st .root) (st .used) t → (key : ℕ)
+    → (x : ℕ) → x < st .used → mem x (pages t) ≡ false → page x (removeCall s st key .pool) ≡ page x s
+remove-elsewhere s st t B w key x low out = by-pool (goodPool s st) refl
+  where
+    pool-of : {e : Ended (Outcome ℕ)} → e ≡ removeCall s st key → page x (e .pool) ≡ page x s → page x (removeCall s st key .pool) ≡ page x s
+    pool-of q h = ap (λ (e : Ended (Outcome ℕ)). page x (e .pool)) (sym q) ∙ h
+
+    by-count : goodPool s st ≡ true → (c : ChainCount) → c ≡ countAlong (st .used) key (leafOf key t) s → page x (removeCall s st key .pool) ≡ page x s
+    by-count good (ChainCount.Ok n) q =
+        pool-of (remove-call s st key refl (remove-done s st key refl good refl (descend-search s (st .root) (st .used) t w key) q refl refl) refl)
+        (search-off (st .used) (removal key (st .used)) (λ a p y. sym (remove-none (st .used) key p y 0 (omega arith))) (remove-turns key (st .used))
+        s (st .root) t w B (pool-is s st good .room) key (st .used) tt x (mem-out x (pages t) out))
+    by-count good (ChainCount.Bad f) q =
+        pool-of (remove-call s st key refl (remove-ill s st key refl good refl (descend-search s (st .root) (st .used) t w key) q refl refl) refl) refl
+
+    by-pool : (b : Bool) → b ≡ goodPool s st → page x (removeCall s st key .pool) ≡ page x s
+    by-pool true q = by-count (sym q) (countAlong (st .used) key (leafOf key t) s) refl
+    by-pool false q = pool-of (remove-call s st key refl (remove-pool s st key q refl refl) refl) refl
+
+-- ---- vacuum
+
+cleared-short : (x : Stamp) → stampLen Stamp.Absent ≤ stampLen x
+cleared-short Stamp.Absent = omega arith
+cleared-short (Stamp.By t) = omega arith
+
+module _ (st : ℕ → ℕ) (bound : ℕ) where
+  kept-short : (rs : List Row) → length (rowsBytes (keptRows st bound rs)) ≤ length (rowsBytes rs)
+  unfolding keptRows
+  kept-short [] = omega arith
+  kept-short (r ∷ rs) = by-fate (fate st bound (r .creator) (r .stamp)) (kept-short rs)
+    where
+      left : List Row
+      left = keptRows st bound rs
+
+      by-fate : (f : Fate) → length (rowsBytes (keptRows st bound rs)) ≤ length (rowsBytes rs)
+          → length (rowsBytes (onFate (keptRows st bound rs) (clearedRow r ∷ keptRows st bound rs) (r ∷ keptRows st bound rs) f)) ≤ length (rowsBytes (r ∷ rs))
+      by-fate Fate.Dropped i = omega (arith, length-rows r rs)
+      by-fate Fate.Cleared i = omega (arith, length-rows r rs, length-rows (clearedRow r) left, cleared-short (r .stamp))
+      by-fate Fate.Same i = omega (arith, length-rows r rs, length-rows r left)
+
+  swept-long : (p e : ℕ) (pg : List ℕ) → LeafIs p e pg → length (sweptLeaf st bound e pg .page) ≡ 4096
+  swept-long p e pg is =
+      rw (vacuum-sweeps st bound e pg (is .sound .bytes) (is .sound .whole) (is .sound .judged)) (by-change (changesRows st bound (rows pg)))
+    where
+      by-change : (b : Bool) → length (pick b (writeRows (keptRows st bound (rows pg)) pg) pg) ≡ 4096
+      by-change true = written-long p e pg is (keptRows st bound (rows pg)) (kept-short (rows pg))
+      by-change false = is .sound .whole
+
+  abbrev sweeping : (used : ℕ) → ℕ → ℕ → ℕ → List ℕ → List ℕ
+  sweeping used m d p s = vacuumedAlong st bound used m d p s .pool
+
+  vacuum-turns : (used m d p e : ℕ) (s : List ℕ) → p < used → LeafIs p e (page p s) → Turn used (sweeping used) m d p s
+  vacuum-turns used m d p e s low is = record { made = y; long = swept-long p e (page p s) is; ends = by-end (eqb (nextLeaf (page p s)) 0) refl }
+    where
+      y : List ℕ
+      y = sweptLeaf st bound e (page p s) .page
+
+      n : ℕ
+      n = d + sweptLeaf st bound e (page p s) .told .dropped
+
+      by-end : (z : Bool) → eqb (nextLeaf (page p s)) 0 ≡ z
+          → (sweeping used (suc m) d p s ≡ setPage p y s)
+          ⊎ ((b : ℕ) × (nextLeaf (page p s) ≡ 0 → ⊥) × (sweeping used (suc m) d p s ≡ sweeping used m b (nextLeaf (page p s)) (setPage p y s)))
+      by-end true q =
+          inl (ap (λ (r : Ended ℕ). r .pool)
+          (sym (vacuum-end st bound used d p s low refl (is .judged) refl refl refl (suc m) (omega arith) (eqb-true (nextLeaf (page p s)) 0 q))))
+      by-end false q =
+          let k : suc m - 1 ≡ m = omega arith in
+          let ne = eqb-false (nextLeaf (page p s)) 0 q in
+          inr (n, ne, ap (λ (r : Ended ℕ). r .pool) (sym (rw k at (vacuum-on st bound used d p s low refl (is .judged) refl refl refl (suc m) (omega arith) ne))))
+
+-- no page outside the tree changes, whatever the status list and the answer
+pub vacuum-elsewhere : (s : List ℕ) (st : State) (t : Shape) → AreBytes s → WellFormed (view s) (st .root) (st .used) t → (bound : ℕ) (ids states : List ℕ)
+    → (x : ℕ) → x < st .used → mem x (pages t) ≡ false → page x (vacuumCall s st bound ids states .pool) ≡ page x s
+vacuum-elsewhere s st t B w bound ids states x low out = by-pool (goodPool s st) refl
+  where
+    pool-of : {e : Ended (Outcome ℕ)} → e ≡ vacuumCall s st bound ids states → page x (e .pool) ≡ page x s → page x (vacuumCall s st bound ids states .pool) ≡ page x s
+    pool-of q h = ap (λ (e : Ended (Outcome ℕ)). page x (e .pool)) (sym q) ∙ h
+
+    swept : goodPool s st ≡ true → page x (vacuumedAlong (lookup ids states) bound (st .used) (st .used) 0 (first t) s .pool) ≡ page x s
+    swept good =
+        rw (← (first-is t))
+        (search-off (st .used) (sweeping (lookup ids states) bound (st .used))
+        (λ d p y. ap (λ (r : Ended ℕ). r .pool) (sym (vacuum-none (lookup ids states) bound (st .used) d p y 0 (omega arith))))
+        (vacuum-turns (lookup ids states) bound (st .used)) s (st .root) t w B (pool-is s st good .room) 0 (st .used) 0 x (mem-out x (pages t) out))
+
+    by-chain : goodPool s st ≡ true → goodStatuses ids states ≡ true → (c : ChainJudged) → c ≡ judgedAlong (st .used) (first t) s
+        → page x (vacuumCall s st bound ids states .pool) ≡ page x s
+    by-chain good listed ChainJudged.Ok q =
+        pool-of (vacuum-call s st bound ids states
+        (vacuum-done s st bound ids states refl good refl listed refl (descend-first s (st .root) (st .used) t w) q refl refl) refl) (swept good)
+    by-chain good listed (ChainJudged.Bad f) q =
+        pool-of (vacuum-call s st bound ids states
+        (vacuum-ill s st bound ids states refl good refl listed refl (descend-first s (st .root) (st .used) t w) q refl refl) refl) refl
+
+    by-list : goodPool s st ≡ true → (b : Bool) → b ≡ goodStatuses ids states → page x (vacuumCall s st bound ids states .pool) ≡ page x s
+    by-list good true q = by-chain good (sym q) (judgedAlong (st .used) (first t) s) refl
+    by-list good false q = pool-of (vacuum-call s st bound ids states (vacuum-statuses s st bound ids states refl good q refl refl) refl) refl
+
+    by-pool : (b : Bool) → b ≡ goodPool s st → page x (vacuumCall s st bound ids states .pool) ≡ page x s
+    by-pool true q = by-list (sym q) (goodStatuses ids states) refl
+    by-pool false q = pool-of (vacuum-call s st bound ids states (vacuum-pool s st bound ids states q refl refl) refl) refl

@@ -1,0 +1,6 @@
+-- Laws of `theory_clean` for the crates above.
+pub mod Changing
+pub mod Running
+pub mod Removing
+pub mod Vacuuming
+pub mod Framing

@@ -1,0 +1,177 @@
+-- Remove on a well-formed tree: it drops every version of its key and counts them, and the tree with the other rows is
+-- well-formed. Assumes nothing.
+use mathlib.Core.Path.{_≡_, refl, sym, ap, _∙_}
+use mathlib.Core.Bool.{Bool, true, false, not}
+use mathlib.Core.List.{List}
+use Prim.Native.Nat.{ℕ, suc, _+_, _-_, _<_}
+use native.Mathlib.Omega.{arith}
+use lib.Dec.{eqb}
+use lib.ListN.{length, length-append}
+use borrow.Author.Tests.{eqb-true}
+use Rattle.store.specs.Pick.{pick}
+use Rattle.store.specs.Le.{AreBytes}
+use Rattle.page.specs.Page.{page, setPage}
+use Rattle.page.specs.Header.{cellCount, nextLeaf}
+use Rattle.page.specs.Pool.{goodPool}
+use Rattle.page.specs.declared.pool.State.{State}
+use Rattle.page.proofs.PoolLaws.{pool-is}
+use Rattle.leaf.specs.Cells.{cells, foldCells, judgeLeaf}
+use Rattle.leaf.specs.Find.{running, runLeaf}
+use Rattle.leaf.specs.Rows.{Row, rows}
+use Rattle.leaf.specs.declared.Judged.{Judged}
+use Rattle.leaf.specs.declared.find.Run.{Run}
+use Rattle.leaf.specs.declared.find.LeafRun.{LeafRun}
+use Rattle.leaf.proofs.Rowing.{endOf}
+use Rattle.leaf.proofs.RowFacts.{rows-fill}
+use Rattle.leaf_edit.specs.Edit.{without}
+use Rattle.tree.specs.Chain.{stop, go}
+use Rattle.call_read.specs.Answer.{done, ended}
+use Rattle.call_clean.specs.Remove.{seenRun, lookRun, countAlong, onRun, withoutRun, removedAlong, removeCall}
+use Rattle.call_clean.specs.declared.remove.ChainCount.{ChainCount}
+use Rattle.call_clean.proofs.Storing.{remove-last, remove-end, remove-on}
+use Rattle.call_clean.proofs.Calls.{remove-done, remove-call}
+use Rattle.theory_tree.specs.View.{view}
+use Rattle.theory_tree.specs.Shape.{Shape, chain, All, WellFormed}
+use Rattle.theory_tree.specs.Versions.{only, ofKey}
+use Rattle.theory_tree.proofs.Workers.{larger}
+use Rattle.theory_tree.proofs.Contexts.{top, Loc}
+use Rattle.theory_tree.proofs.Lists.{all-map}
+use Rattle.theory_tree.proofs.Map.{mapS, filt-keeps, filt-chain}
+use Rattle.theory_tree.proofs.Order.{filt-app, filt-none}
+use Rattle.theory_tree.proofs.Seek.{leafOf}
+use Rattle.theory_tree.proofs.Walk.{locs, froms, locs-plug}
+use Rattle.theory_walks.proofs.Descending.{descend-search}
+use Rattle.theory_walks.proofs.Looking.{larger-is}
+use Rattle.theory_walks.proofs.Walking.{at-leaves, upTo, around, gather-chain, walk-key}
+use Rattle.theory_clean.proofs.Changing.{LeafIs, PoolHas, Changed, unchanged, rewritten, changedAt, changed, Mapped, mapped, change-search, bytes-without}
+use Rattle.theory_clean.proofs.Running.{only-others, only-fits, only-short, Splits, run-splits, rows-same, count-in, run-out}
+
+module _ (key : ℕ) where
+  -- the rows of other keys
+  abbrev othersOf : List Row → List Row
+  othersOf rs = only (λ (x : Row). not (ofKey key x)) rs
+
+  abbrev runOf : List ℕ → Run
+  runOf pg = foldCells (running key) (record { from = 12; to = 12; count = 0 }) (cells pg)
+
+  run-told : (p e : ℕ) (pg : List ℕ) → judgeLeaf p pg ≡ Judged.Ok e → runLeaf p key pg ≡ LeafRun.Ok (runOf pg) e (larger key (rows pg))
+  unfolding runLeaf
+  run-told p e pg j = rw (j, larger-is key pg)
+
+  run-count : (p e : ℕ) (pg : List ℕ) → judgeLeaf p pg ≡ Judged.Ok e → runOf pg .count ≡ length (only (ofKey key) (rows pg))
+  run-count p e pg j =
+      let r = run-splits key p e pg j in
+      ap (λ (x : Run). x .count) (r .told) ∙ sym (count-in key pg r)
+
+  -- ---- the count
+
+  abbrev step : ℕ → ℕ → List ℕ → ℕ
+  step n p pg = n + runOf pg .count
+
+  count-says : (n p : ℕ) (pg : List ℕ) (e : ℕ) → judgeLeaf p pg ≡ Judged.Ok e → lookRun key n p pg ≡ pick (larger key (rows pg)) (stop (step n p pg)) (go (step n p pg))
+  count-says n p pg e j = rw (run-told p e pg j) (by-end (larger key (rows pg)))
+    where
+      by-end : (b : Bool) → seenRun n (LeafRun.Ok (runOf pg) e b) ≡ pick b (stop (step n p pg)) (go (step n p pg))
+      by-end true = refl
+      by-end false = refl
+
+  count-skips : (n p : ℕ) (pg : List ℕ) (e : ℕ) → judgeLeaf p pg ≡ Judged.Ok e → All (λ (r : Row). ofKey key r ≡ false) (rows pg) → step n p pg ≡ n
+  count-skips n p pg e j o =
+      let z : length (only (ofKey key) (rows pg)) ≡ 0 = ap length (filt-none (ofKey key) (rows pg) o) in
+      omega (arith, run-count p e pg j)
+
+  module _ (s : List ℕ) (root used : ℕ) (t : Shape) (w : WellFormed (view s) root used t) where
+    counted : countAlong used key (leafOf key t) s ≡ ChainCount.Ok (length (only (ofKey key) (chain t)))
+    unfolding countAlong
+    counted =
+        rw (walk-key (lookRun key) key step count-says count-skips s root used t w 0)
+        (ap (λ (n : ℕ). ChainCount.Ok n)
+        (gather-chain step s used (λ n rs. n + length (only (ofKey key) rs)) (λ n p pg e j. ap (λ (m : ℕ). n + m) (run-count p e pg j)) (λ n. omega arith)
+        (λ n xs ys. omega (arith, ap length (filt-app (ofKey key) xs ys), length-append (only (ofKey key) xs) (only (ofKey key) ys)))
+        t (at-leaves s root used t w (locs t top) (locs-plug t top)) 0
+        ∙ omega arith))
+
+  -- ---- the stores
+
+  -- a leaf without its cells of the key
+  abbrev cleared : ℕ → List ℕ → List ℕ
+  cleared p pg = onRun (λ run e l. withoutRun run e pg) pg (runLeaf p key pg)
+
+  clears : (p e : ℕ) (pg : List ℕ) → LeafIs p e pg → Changed othersOf pg (cleared p pg)
+  clears p e pg is = rw (run-told p e pg (is .judged), r .told) (by-count (eqb (length (r .out)) 0) refl)
+    where
+      r : Splits key 12 (cells pg)
+      r = run-splits key p e pg (is .judged)
+
+      by-count : (b : Bool) → eqb (length (r .out)) 0 ≡ b
+          → Changed othersOf pg (pick b pg (without (endOf 12 (r .before)) (endOf (endOf 12 (r .before)) (r .out)) (length (r .out)) e (cellCount pg) pg))
+      by-count true q = unchanged othersOf p e pg is (rows-same key pg r (eqb-true (length (r .out)) 0 q))
+      by-count false q =
+          rewritten othersOf p e pg is _
+          (bytes-without (endOf 12 (r .before)) (endOf (endOf 12 (r .before)) (r .out)) (length (r .out)) e (cellCount pg) pg (is .sound .bytes))
+          (only-fits (λ (x : Row). not (ofKey key x)) (rows pg) (rows-fill pg e (is .sound) .2))
+          (only-short (λ (x : Row). not (ofKey key x)) (rows pg)) (run-out key pg r e (is .sound))
+
+  module _ (used m p e : ℕ) (s : List ℕ) (low : p < used) (is : LeafIs p e (page p s)) where
+    cleared-at : changedAt othersOf cleared clears p s ≡ setPage p (withoutRun (runOf (page p s)) e (page p s)) s
+    cleared-at = rw (run-told p e (page p s) (is .judged))
+
+    clear-last : larger key (rows (page p s)) ≡ true → removedAlong used (suc m) key p s ≡ changedAt othersOf cleared clears p s
+    clear-last l = sym (remove-last used key p s low refl (run-told p e (page p s) (is .judged)) cleared-at (suc m) (omega arith) l)
+
+    clear-end : larger key (rows (page p s)) ≡ false → nextLeaf (page p s) ≡ 0 → removedAlong used (suc m) key p s ≡ changedAt othersOf cleared clears p s
+    clear-end l z = sym (remove-end used key p s low refl (run-told p e (page p s) (is .judged)) cleared-at refl (suc m) (omega arith) l z)
+
+    clear-on : (n : ℕ) → larger key (rows (page p s)) ≡ false → nextLeaf (page p s) ≡ n → (n ≡ 0 → ⊥)
+        → removedAlong used (suc m) key p s ≡ removedAlong used m key n (changedAt othersOf cleared clears p s)
+    clear-on n l q z =
+        let k : suc m - 1 ≡ m = omega arith in
+        sym (rw k at (remove-on used key p s low refl (run-told p e (page p s) (is .judged)) cleared-at (sym q) (suc m) (omega arith) l z))
+
+  module _ (s : List ℕ) (root used : ℕ) (t : Shape) (w : WellFormed (view s) root used t) (h : PoolHas used s) where
+    abbrev met : List Loc
+    met = upTo (larger key) (froms key t top)
+
+    removed : removedAlong used used key (leafOf key t) s ≡ changed othersOf cleared clears met s
+    removed =
+        change-search othersOf cleared clears {A = Unit {0}} {B = List ℕ} used (λ m a p x. removedAlong used m key p x) (λ a x. x) (larger key) (λ a p pg. a)
+        (λ m a p e x low is l. clear-last used m p e x low is l) (λ m a p e x low is l z. clear-end used m p e x low is l z)
+        (λ m a p e n x low is l q z. clear-on used m p e x low is n l q z) s root t w h key tt
+
+    others-stay : (ls : List Loc) → All (λ (l : Loc). All (λ (r : Row). ofKey key r ≡ false) (l .cells)) ls → All (λ (l : Loc). othersOf (l .cells) ≡ l .cells) ls
+    others-stay =
+        all-map (λ (l : Loc). All (λ (r : Row). ofKey key r ≡ false) (l .cells)) (λ (l : Loc). othersOf (l .cells) ≡ l .cells) (λ l o. only-others key (l .cells) o)
+
+    tree-of : Mapped othersOf cleared clears s (changed othersOf cleared clears met s) root used t
+    tree-of =
+        let r = around key 0 4294967295 t (w .bounds) in
+        mapped othersOf cleared clears s root used t w h (filt-keeps (λ (x : Row). not (ofKey key x))) (r .passed) met (r .left) (r .is)
+        (others-stay (r .passed) (r .none-before)) (others-stay (r .left) (r .none-behind))
+
+-- ---- the call
+
+pub record Removes (s : List ℕ) (st : State) (key : ℕ) (t : Shape) : Type 0 where
+  pub pool : List ℕ
+  pub tree : Shape
+  pub answer : removeCall s st key ≡ ended (done (length (only (ofKey key) (chain t)))) pool
+  pub bytes : AreBytes pool
+  pub long : length pool ≡ length s
+  pub holds : WellFormed (view pool) (st .root) (st .used) tree
+  pub rows-are : chain tree ≡ only (λ (x : Row). not (ofKey key x)) (chain t)
+
+pub remove-does : (s : List ℕ) (st : State) (t : Shape) → AreBytes s → goodPool s st ≡ true → WellFormed (view s) (st .root) (st .used) t → (key : ℕ) → Removes s st key t
+remove-does s st t B good w key =
+    let h : PoolHas (st .used) s = record { bytes = B; room = pool-is s st good .room } in
+    let m = tree-of key s (st .root) (st .used) t w h in
+    let run =
+    remove-done s st key refl good refl (descend-search s (st .root) (st .used) t w key) refl (counted key s (st .root) (st .used) t w)
+    (sym (removed key s (st .root) (st .used) t w h)) in
+    record {
+      pool = changed (othersOf key) (cleared key) (clears key) (met key s (st .root) (st .used) t w h) s;
+      tree = mapS (othersOf key) t;
+      answer = sym (remove-call s st key refl run refl);
+      bytes = m .bytes;
+      long = m .long;
+      holds = m .holds;
+      rows-are = filt-chain (λ (x : Row). not (ofKey key x)) t;
+    }

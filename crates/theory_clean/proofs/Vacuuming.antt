@@ -1,0 +1,291 @@
+-- Vacuum on a well-formed tree: it drops and clears the versions of every leaf by their fate and counts those dropped, and the
+-- tree with the rows that are kept is well-formed. Assumes nothing.
+use mathlib.Core.Path.{_≡_, refl, sym, ap, _∙_}
+use mathlib.Core.Bool.{Bool, true, false}
+use mathlib.Core.List.{List, [], _∷_, _++_, append-nil}
+use Prim.Native.Nat.{ℕ, zero, suc, _+_, _-_, _≤_, _<_}
+use native.Mathlib.Omega.{arith}
+use lib.ListN.{length}
+use Rattle.store.specs.Pick.{pick}
+use Rattle.store.specs.Le.{AreBytes}
+use Rattle.store.specs.Part.{part}
+use Rattle.page.specs.Page.{page, setPage}
+use Rattle.page.specs.Header.{cellCount, nextLeaf}
+use Rattle.page.specs.Pool.{goodPool}
+use Rattle.page.specs.declared.pool.State.{State}
+use Rattle.page.proofs.PoolLaws.{pool-is}
+use Rattle.row.specs.Read.{cellAt}
+use Rattle.row.specs.Write.{stampLen}
+use Rattle.row.specs.declared.Cell.{Cell}
+use Rattle.row.specs.declared.Stamp.{Stamp}
+use Rattle.row.specs.declared.read.CellRead.{CellRead}
+use Rattle.mvcc.specs.Lists.{lookup, goodStatuses}
+use Rattle.mvcc.specs.Vacuum.{fate}
+use Rattle.mvcc.specs.declared.vacuum.Fate.{Fate}
+use Rattle.leaf.specs.Cells.{onCell, judgeLeaf, onJudged}
+use Rattle.leaf.specs.Rows.{Row, AllFit, rows, rowsBytes, writeRows}
+use Rattle.leaf.proofs.Rowing.{length-rows}
+use Rattle.leaf.proofs.RowFacts.{rows-fill}
+use Rattle.leaf_edit.specs.Edit.{without}
+use Rattle.leaf_vacuum.specs.Vacuum.{clearedRow, onFate, keptRows, droppedRows, changesRows, withoutStamp, sweep}
+use Rattle.leaf_vacuum.proofs.VacuumFacts.{vacuum-sweeps}
+use Rattle.call_read.specs.Answer.{Ended, done, ended}
+use Rattle.call_clean.specs.Vacuum.{lookLeaf, judgedAlong, sweptLeaf, vacuumedAlong, vacuumCall}
+use Rattle.call_clean.specs.declared.vacuum.ChainJudged.{ChainJudged}
+use Rattle.call_clean.proofs.Storing.{vacuum-end, vacuum-on}
+use Rattle.call_clean.proofs.Calls.{vacuum-done, vacuum-call}
+use Rattle.theory_tree.specs.View.{view}
+use Rattle.theory_tree.specs.Shape.{Shape, leaf, node, pair, chain, first, All, KeysIn, Sorted, NotAfter, WellFormed}
+use Rattle.theory_tree.proofs.Contexts.{top}
+use Rattle.theory_tree.proofs.Map.{mapS, Keeps}
+use Rattle.theory_tree.proofs.Order.{btw-weak}
+use Rattle.theory_tree.proofs.Walk.{locs, locs-plug}
+use Rattle.theory_stores.proofs.Keeping.{bytes-part, bytes-pad, bytes-spliced, bytes-cell}
+use Rattle.theory_walks.proofs.Descending.{descend-first}
+use Rattle.theory_walks.proofs.Walking.{at-leaves, up-to-end, gather, gather-chain, walk-all}
+use Rattle.theory_clean.proofs.Changing.{LeafIs, PoolHas, Changed, unchanged, rewritten, changedAt, changed, Mapped, mapped, change-first, bytes-without}
+
+-- ---- the bytes of a cell
+
+bytes-unstamped : (e : ℕ) (c : Cell) (pg : List ℕ) → AreBytes pg → AreBytes (withoutStamp e c pg)
+unfolding withoutStamp
+bytes-unstamped e c pg B =
+    bytes-pad 4096 _ (bytes-spliced (c .at) (c .next) e _ pg
+    (bytes-cell (c .key) (c .version .creator) Stamp.Absent (c .version .pointer) (part (c .version .start) (c .version .len) pg)
+    (bytes-part (c .version .start) (c .version .len) pg B)) B)
+
+-- ---- rows by their fate
+
+cleared-short : (x : Stamp) → stampLen Stamp.Absent ≤ stampLen x
+cleared-short Stamp.Absent = omega arith
+cleared-short (Stamp.By t) = omega arith
+
+module _ (x : ℕ → ℕ) (bound : ℕ) where
+  abbrev kept : List Row → List Row
+  kept rs = keptRows x bound rs
+
+  abbrev fateOf : Row → Fate
+  fateOf r = fate x bound (r .creator) (r .stamp)
+
+  pub kept-app : (xs ys : List Row) → kept (xs ++ ys) ≡ kept xs ++ kept ys
+  unfolding keptRows
+  kept-app [] ys = refl
+  kept-app (r ∷ xs) ys = by-fate (fateOf r) (kept-app xs ys)
+    where
+      by-fate : (f : Fate) → kept (xs ++ ys) ≡ kept xs ++ kept ys
+          → onFate (kept (xs ++ ys)) (clearedRow r ∷ kept (xs ++ ys)) (r ∷ kept (xs ++ ys)) f ≡ onFate (kept xs) (clearedRow r ∷ kept xs) (r ∷ kept xs) f ++ kept ys
+      by-fate Fate.Dropped i = i
+      by-fate Fate.Cleared i = ap (λ (l : List Row). clearedRow r ∷ l) i
+      by-fate Fate.Same i = ap (λ (l : List Row). r ∷ l) i
+
+  pub dropped-app : (xs ys : List Row) → droppedRows x bound (xs ++ ys) ≡ droppedRows x bound xs + droppedRows x bound ys
+  unfolding droppedRows
+  dropped-app [] ys = omega arith
+  dropped-app (r ∷ xs) ys = by-fate (fateOf r) (dropped-app xs ys)
+    where
+      by-fate : (f : Fate) → droppedRows x bound (xs ++ ys) ≡ droppedRows x bound xs + droppedRows x bound ys
+          → onFate (droppedRows x bound (xs ++ ys) + 1) (droppedRows x bound (xs ++ ys)) (droppedRows x bound (xs ++ ys)) f
+          ≡ onFate (droppedRows x bound xs + 1) (droppedRows x bound xs) (droppedRows x bound xs) f + droppedRows x bound ys
+      by-fate Fate.Dropped i = omega arith
+      by-fate Fate.Cleared i = i
+      by-fate Fate.Same i = i
+
+  dropped-none : droppedRows x bound [] ≡ 0
+  unfolding droppedRows
+  dropped-none = refl
+
+  kept-same : (rs : List Row) → changesRows x bound rs ≡ false → kept rs ≡ rs
+  unfolding keptRows changesRows
+  kept-same [] e = refl
+  kept-same (r ∷ rs) e = by-fate (fateOf r) e (kept-same rs)
+    where
+      by-fate : (f : Fate) → onFate true true (changesRows x bound rs) f ≡ false → (changesRows x bound rs ≡ false → kept rs ≡ rs)
+          → onFate (kept rs) (clearedRow r ∷ kept rs) (r ∷ kept rs) f ≡ r ∷ rs
+      by-fate Fate.Dropped q i = absurd (let z : _≡_ {A = ℕ} 0 1 = cc in omega arith)
+      by-fate Fate.Cleared q i = absurd (let z : _≡_ {A = ℕ} 0 1 = cc in omega arith)
+      by-fate Fate.Same q i = ap (λ (l : List Row). r ∷ l) (i q)
+
+  kept-fits : (rs : List Row) → AllFit rs → AllFit (kept rs)
+  unfolding keptRows
+  kept-fits [] h = tt
+  kept-fits (r ∷ rs) h = by-fate (fateOf r) (kept-fits rs (h .1))
+    where
+      by-fate : (f : Fate) → AllFit (kept rs) → AllFit (onFate (kept rs) (clearedRow r ∷ kept rs) (r ∷ kept rs) f)
+      by-fate Fate.Dropped i = i
+      by-fate Fate.Cleared i = (record { key = h .0 .key; creator = h .0 .creator; stamp = tt; pointer = h .0 .pointer; body = h .0 .body }, i)
+      by-fate Fate.Same i = (h .0, i)
+
+  kept-short : (rs : List Row) → length (rowsBytes (kept rs)) ≤ length (rowsBytes rs)
+  unfolding keptRows
+  kept-short [] = omega arith
+  kept-short (r ∷ rs) = by-fate (fateOf r) (kept-short rs)
+    where
+      by-fate : (f : Fate) → length (rowsBytes (kept rs)) ≤ length (rowsBytes rs)
+          → length (rowsBytes (onFate (kept rs) (clearedRow r ∷ kept rs) (r ∷ kept rs) f)) ≤ length (rowsBytes (r ∷ rs))
+      by-fate Fate.Dropped i = omega (arith, length-rows r rs)
+      by-fate Fate.Cleared i = omega (arith, length-rows r rs, length-rows (clearedRow r) (kept rs), cleared-short (r .stamp))
+      by-fate Fate.Same i = omega (arith, length-rows r rs, length-rows r (kept rs))
+
+  -- keys and creators stay, and so do order and bounds
+  kept-keys : (lo hi : ℕ) (rs : List Row) → KeysIn lo hi rs → KeysIn lo hi (kept rs)
+  unfolding keptRows
+  kept-keys lo hi [] h = h
+  kept-keys lo hi (r ∷ rs) h = by-fate (fateOf r) (kept-keys (r .key) hi rs (h .1))
+    where
+      by-fate : (f : Fate) → KeysIn (r .key) hi (kept rs) → KeysIn lo hi (onFate (kept rs) (clearedRow r ∷ kept rs) (r ∷ kept rs) f)
+      by-fate Fate.Dropped i = btw-weak (r .key) lo hi (kept rs) (h .0) i
+      by-fate Fate.Cleared i = (h .0, i)
+      by-fate Fate.Same i = (h .0, i)
+
+  kept-after : (y : Row) (rs : List Row) → All (NotAfter y) rs → All (NotAfter y) (kept rs)
+  unfolding keptRows
+  kept-after y [] h = tt
+  kept-after y (r ∷ rs) h = by-fate (fateOf r) (kept-after y rs (h .1))
+    where
+      by-fate : (f : Fate) → All (NotAfter y) (kept rs) → All (NotAfter y) (onFate (kept rs) (clearedRow r ∷ kept rs) (r ∷ kept rs) f)
+      by-fate Fate.Dropped i = i
+      by-fate Fate.Cleared i = (h .0, i)
+      by-fate Fate.Same i = (h .0, i)
+
+  kept-sorted : (rs : List Row) → Sorted rs → Sorted (kept rs)
+  unfolding keptRows
+  kept-sorted [] h = tt
+  kept-sorted (r ∷ rs) h = by-fate (fateOf r) (kept-after r rs (h .0)) (kept-sorted rs (h .1))
+    where
+      by-fate : (f : Fate) → All (NotAfter r) (kept rs) → Sorted (kept rs) → Sorted (onFate (kept rs) (clearedRow r ∷ kept rs) (r ∷ kept rs) f)
+      by-fate Fate.Dropped a i = i
+      by-fate Fate.Cleared a i = (a, i)
+      by-fate Fate.Same a i = (a, i)
+
+  kept-keeps : Keeps kept
+  kept-keeps = λ lo hi rs b o. (kept-keys lo hi rs b, kept-sorted rs o)
+
+  kept-chain : (t : Shape) → chain (mapS kept t) ≡ kept (chain t)
+  kept-chain (leaf p rs) = refl
+  kept-chain (node p t) = kept-chain t
+  kept-chain (pair a k b) = rw (kept-app (chain a) (chain b), kept-chain a, kept-chain b)
+
+  -- ---- the stores
+
+  bytes-swept : (n at e k d : ℕ) (b : Bool) (pg : List ℕ) → AreBytes pg → AreBytes (sweep x bound n at e k d b pg .page)
+  unfolding sweep
+  bytes-swept zero at e k d b pg B = B
+  bytes-swept (suc n) at e k d b pg B = by-read (cellAt pg at) (bytes-swept n)
+    where
+      by-fate : (c : Cell) (f : Fate) → ((at₁ e₁ k₁ d₁ : ℕ) (b₁ : Bool) (pg₁ : List ℕ) → AreBytes pg₁ → AreBytes (sweep x bound n at₁ e₁ k₁ d₁ b₁ pg₁ .page))
+          → AreBytes
+          (onFate
+          (sweep x bound n at (e - (c .next - c .at)) (k - 1) (d + 1) true (without at (c .next) 1 e k pg))
+          (sweep x bound n (c .next - 8) (e - 8) k d true (withoutStamp e c pg))
+          (sweep x bound n (c .next) e k d b pg)
+          f
+          .page)
+      by-fate c Fate.Dropped ih = ih at (e - (c .next - c .at)) (k - 1) (d + 1) true (without at (c .next) 1 e k pg) (bytes-without at (c .next) 1 e k pg B)
+      by-fate c Fate.Cleared ih = ih (c .next - 8) (e - 8) k d true (withoutStamp e c pg) (bytes-unstamped e c pg B)
+      by-fate c Fate.Same ih = ih (c .next) e k d b pg B
+
+      by-read : (r : CellRead) → ((at₁ e₁ k₁ d₁ : ℕ) (b₁ : Bool) (pg₁ : List ℕ) → AreBytes pg₁ → AreBytes (sweep x bound n at₁ e₁ k₁ d₁ b₁ pg₁ .page))
+          → AreBytes
+          (onCell
+          (λ c.
+          onFate
+          (sweep x bound n at (e - (c .next - c .at)) (k - 1) (d + 1) true (without at (c .next) 1 e k pg))
+          (sweep x bound n (c .next - 8) (e - 8) k d true (withoutStamp e c pg))
+          (sweep x bound n (c .next) e k d b pg)
+          (fate x bound (c .version .creator) (c .version .stamp)))
+          (λ kind. record { page = pg; told = record { dropped = d; changed = b } })
+          r
+          .page)
+      by-read (CellRead.Got c) ih = by-fate c (fate x bound (c .version .creator) (c .version .stamp)) ih
+      by-read (CellRead.Bad kind) ih = B
+
+  -- a leaf with what is kept
+  abbrev swept : ℕ → List ℕ → List ℕ
+  swept p pg = onJudged (λ e. sweptLeaf x bound e pg .page) (λ f. pg) (judgeLeaf p pg)
+
+  sweeps : (p e : ℕ) (pg : List ℕ) → LeafIs p e pg → Changed kept pg (swept p pg)
+  sweeps p e pg is = rw (is .judged) (by-change (changesRows x bound (rows pg)) refl)
+    where
+      page-is : sweptLeaf x bound e pg .page ≡ pick (changesRows x bound (rows pg)) (writeRows (kept (rows pg)) pg) pg
+      page-is = rw (vacuum-sweeps x bound e pg (is .sound .bytes) (is .sound .whole) (is .sound .judged))
+
+      by-change : (b : Bool) → changesRows x bound (rows pg) ≡ b → Changed kept pg (sweptLeaf x bound e pg .page)
+      by-change true q =
+          rewritten kept p e pg is (sweptLeaf x bound e pg .page) (bytes-swept (cellCount pg) 12 e (cellCount pg) 0 false pg (is .sound .bytes))
+          (kept-fits (rows pg) (rows-fill pg e (is .sound) .2)) (kept-short (rows pg)) (page-is ∙ rw q)
+      by-change false q = rw (page-is, q) (unchanged kept p e pg is (kept-same (rows pg) q))
+
+  abbrev step : ℕ → ℕ → List ℕ → ℕ
+  step n p pg = n + droppedRows x bound (rows pg)
+
+  module _ (used m d p e : ℕ) (s : List ℕ) (low : p < used) (is : LeafIs p e (page p s)) where
+    swept-at : changedAt kept swept sweeps p s ≡ setPage p (sweptLeaf x bound e (page p s) .page) s
+    swept-at = rw (is .judged)
+
+    swept-told : sweptLeaf x bound e (page p s) .told .dropped ≡ droppedRows x bound (rows (page p s))
+    swept-told = rw (vacuum-sweeps x bound e (page p s) (is .sound .bytes) (is .sound .whole) (is .sound .judged))
+
+    sweep-end : nextLeaf (page p s) ≡ 0 → vacuumedAlong x bound used (suc m) d p s ≡ ended (step d p (page p s)) (changedAt kept swept sweeps p s)
+    sweep-end z =
+        sym (rw swept-told at (vacuum-end x bound used d p s low refl (is .judged) {w = sweptLeaf x bound e (page p s) .told} refl swept-at refl (suc m) (omega arith) z))
+
+    sweep-on : (n : ℕ) → nextLeaf (page p s) ≡ n → (n ≡ 0 → ⊥)
+        → vacuumedAlong x bound used (suc m) d p s ≡ vacuumedAlong x bound used m (step d p (page p s)) n (changedAt kept swept sweeps p s)
+    sweep-on n q z =
+        let k : suc m - 1 ≡ m = omega arith in
+        sym (rw (k, swept-told) at
+        (vacuum-on x bound used d p s low refl (is .judged) {w = sweptLeaf x bound e (page p s) .told} refl swept-at (sym q) (suc m) (omega arith) z))
+
+  module _ (s : List ℕ) (root used : ℕ) (t : Shape) (w : WellFormed (view s) root used t) where
+    judged : judgedAlong used (first t) s ≡ ChainJudged.Ok
+    unfolding judgedAlong
+    judged = rw (walk-all lookLeaf (λ n p pg. n) (λ n p pg e j. rw j) s root used t w 0)
+
+    abbrev after : List ℕ
+    after = changed kept swept sweeps (locs t top) s
+
+    module _ (h : PoolHas used s) where
+      vacuumed : vacuumedAlong x bound used used 0 (first t) s ≡ ended (droppedRows x bound (chain t)) after
+      vacuumed =
+          let walked = change-first kept swept sweeps {A = ℕ} {B = Ended ℕ} used (λ m d p y. vacuumedAlong x bound used m d p y) (λ d y. ended d y) (λ rs. false) step
+          (λ m d p e y low is l. absurd (let z : _≡_ {A = ℕ} 0 1 = cc in omega arith)) (λ m d p e y low is l z. sweep-end used m d p e y low is z)
+          (λ m d p e n y low is l q z. sweep-on used m d p e y low is n q z) s root t w h 0 in
+          let count : gather step s 0 (locs t top) ≡ 0 + droppedRows x bound (chain t) =
+          gather-chain step s used (λ n rs. n + droppedRows x bound rs) (λ n p pg e j. refl) (λ n. omega (arith, dropped-none))
+          (λ n xs ys. omega (arith, dropped-app xs ys)) t (at-leaves s root used t w (locs t top) (locs-plug t top)) 0 in
+          let zero-on : 0 + droppedRows x bound (chain t) ≡ droppedRows x bound (chain t) = omega arith in
+          walked ∙ rw (up-to-end (locs t top), count, zero-on)
+
+      tree-of : Mapped kept swept sweeps s after root used t
+      tree-of =
+          mapped kept swept sweeps s root used t w h kept-keeps [] (locs t top) [] (sym (append-nil (locs t top))) tt tt
+
+-- ---- the call
+
+pub record Vacuums (s : List ℕ) (st : State) (bound : ℕ) (ids states : List ℕ) (t : Shape) : Type 0 where
+  pub pool : List ℕ
+  pub tree : Shape
+  pub answer : vacuumCall s st bound ids states ≡ ended (done (droppedRows (lookup ids states) bound (chain t))) pool
+  pub bytes : AreBytes pool
+  pub long : length pool ≡ length s
+  pub holds : WellFormed (view pool) (st .root) (st .used) tree
+  pub rows-are : chain tree ≡ keptRows (lookup ids states) bound (chain t)
+
+pub vacuum-does : (s : List ℕ) (st : State) (t : Shape) → AreBytes s → goodPool s st ≡ true → WellFormed (view s) (st .root) (st .used) t
+    → (bound : ℕ) (ids states : List ℕ) → goodStatuses ids states ≡ true → Vacuums s st bound ids states t
+vacuum-does s st t B good w bound ids states listed =
+    let x = lookup ids states in
+    let h : PoolHas (st .used) s = record { bytes = B; room = pool-is s st good .room } in
+    let m = tree-of x bound s (st .root) (st .used) t w h in
+    let run =
+    vacuum-done s st bound ids states refl good refl listed refl (descend-first s (st .root) (st .used) t w) refl (judged x bound s (st .root) (st .used) t w)
+    (sym (vacuumed x bound s (st .root) (st .used) t w h)) in
+    record {
+      pool = after x bound s (st .root) (st .used) t w;
+      tree = mapS (kept x bound) t;
+      answer = sym (vacuum-call s st bound ids states run refl);
+      bytes = m .bytes;
+      long = m .long;
+      holds = m .holds;
+      rows-are = kept-chain x bound t;
+    }

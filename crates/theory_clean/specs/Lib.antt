@@ -1,0 +1,1 @@
+-- The statements are over the definitions of `call_clean`, `leaf_vacuum` and `theory_tree`; there are none of its own.

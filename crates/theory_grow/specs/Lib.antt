@@ -1,0 +1,2 @@
+-- What a reader of the theorems of `theory_grow` has to believe.
+pub mod Rooted

@@ -1,0 +1,26 @@
+-- Laws of `theory_tree` for the crates above.
+pub mod Workers
+pub mod Contexts
+pub mod Entries
+pub mod Says
+pub mod Lists
+pub mod Frame
+pub mod Links
+pub mod Order
+pub mod Zip
+pub mod Place
+pub mod Cuts
+pub mod Abs
+pub mod Enter
+pub mod Grow
+pub mod Leaf
+pub mod Insert
+pub mod Seek
+pub mod Read
+pub mod Walk
+pub mod Map
+pub mod Search
+pub mod Pin
+pub mod Count
+pub mod Topped
+pub mod Pigeon

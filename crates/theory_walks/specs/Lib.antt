@@ -1,0 +1,1 @@
+-- The statements are over the definitions of `tree` and `theory_tree`; there are none of its own.

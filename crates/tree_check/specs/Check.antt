@@ -1,0 +1,105 @@
+-- Well-formed (document 01, section 3): "At most 4 levels, all leaves on the last. Page numbers below the pages in use,
+-- none twice. Internal pages hold 1 to 510 non-decreasing keys; every key, of cells and of separators, left of a separator
+-- is at most it, every key right at least it. Within each leaf, cells are readable and non-decreasing by key, then creator.
+-- The root's parent is 0, any other page's is the page above it. Next-leaf links run left to right and end with 0, so page
+-- 0 is no leaf but the first." At the end, how it is judged without a table of pages.
+use mathlib.Core.Bool.{Bool, true, false, not, _&&_, _||_}
+use mathlib.Core.List.{List, [], _∷_, _++_}
+use Prim.Native.Nat.{ℕ, zero, suc}
+use lib.Dec.{leb, ltb, eqb}
+use Rattle.store.specs.Pick.{pick}
+use Rattle.page.specs.Page.{page}
+use Rattle.page.specs.Header.{parentOf, nextLeaf, cellCount}
+use Rattle.inner.specs.Inner.{keyAt, childAt, keysOf, childrenOf, judgeInner}
+use Rattle.leaf.specs.Cells.{cells, foldCells, judgeLeaf, onJudged}
+use Rattle.tree.specs.Distinct.{distinct}
+use Rattle.tree.specs.Descend.{onInner}
+use Rattle.tree_check.specs.declared.Verdict.{Verdict}
+use Rattle.tree_check.specs.declared.InnerSound.{InnerSound}
+
+-- ---- one page under its bounds
+
+unfoldable pub within : (lo hi k : ℕ) → Bool
+within lo hi k = leb lo k && leb k hi
+
+unfoldable pub allWithin : (lo hi : ℕ) → List ℕ → Bool
+allWithin lo hi [] = true
+allWithin lo hi (k ∷ ks) = within lo hi k && allWithin lo hi ks
+
+-- a leaf that is judged well, every cell's key from lo to hi
+unfoldable pub cellsWithin : (lo hi p : ℕ) → List ℕ → Bool
+cellsWithin lo hi p pg = onJudged (λ e. foldCells (λ b c. b && within lo hi (c .key)) true (cells pg)) (λ f. false) (judgeLeaf p pg)
+
+-- page p is in use, has that parent, and is such a leaf
+unfoldable pub soundLeaf : (used parent p lo hi : ℕ) → List ℕ → Bool
+soundLeaf used parent p lo hi s = ltb p used && (eqb (parentOf (page p s)) parent && cellsWithin lo hi p (page p s))
+
+-- or an internal page that is judged well, every key from lo to hi
+unfoldable pub soundInner : (used parent p lo hi : ℕ) → List ℕ → Bool
+soundInner used parent p lo hi s =
+    ltb p used
+    && (eqb (parentOf (page p s)) parent && onInner (λ n. allWithin lo hi (keysOf (page p s))) (λ f. false) (judgeInner p (page p s)))
+
+-- ---- a subtree with k levels below its top
+
+-- each child between the separators beside it; f judges one
+unfoldable pub soundKids : (ℕ → ℕ → ℕ → Bool) → (lo hi : ℕ) → List ℕ → List ℕ → Bool
+soundKids f lo hi ks [] = false
+soundKids f lo hi [] (c ∷ cs) = f c lo hi
+soundKids f lo hi (k ∷ ks) (c ∷ cs) = f c lo k && soundKids f k hi ks cs
+
+unfoldable pub sound : (k used : ℕ) → List ℕ → (parent p lo hi : ℕ) → Bool
+sound zero used s parent p lo hi = soundLeaf used parent p lo hi s
+sound (suc k) used s parent p lo hi = soundInner used parent p lo hi s && soundKids (sound k used s p) lo hi (keysOf (page p s)) (childrenOf (page p s))
+
+-- the leaves, left to right, and all pages
+unfoldable pub eachOf : (ℕ → List ℕ) → List ℕ → List ℕ
+eachOf f [] = []
+eachOf f (c ∷ cs) = f c ++ eachOf f cs
+
+unfoldable pub leavesOf : (k : ℕ) → List ℕ → (p : ℕ) → List ℕ
+leavesOf zero s p = p ∷ []
+leavesOf (suc k) s p = eachOf (leavesOf k s) (childrenOf (page p s))
+
+unfoldable pub pagesOf : (k : ℕ) → List ℕ → (p : ℕ) → List ℕ
+pagesOf zero s p = p ∷ []
+pagesOf (suc k) s p = p ∷ eachOf (pagesOf k s) (childrenOf (page p s))
+
+-- ---- the tree
+
+-- "Next-leaf links run left to right and end with 0, so page 0 is no leaf but the first"
+unfoldable pub linked : List ℕ → List ℕ → Bool
+linked s [] = true
+linked s (x ∷ []) = eqb (nextLeaf (page x s)) 0
+linked s (x ∷ (y ∷ ys)) = eqb (nextLeaf (page x s)) y && (not (eqb y 0) && linked s (y ∷ ys))
+
+-- with k levels below the root; ranks are from 0 to 4294967295, so that the root has no bounds
+unfoldable pub wellAt : (k used root : ℕ) → List ℕ → Bool
+wellAt k used root s = sound k used s 0 root 0 4294967295 && (linked s (leavesOf k s root) && distinct (pagesOf k s root))
+
+unfoldable pub wellFormed : (used root : ℕ) → List ℕ → Bool
+wellFormed used root s = wellAt 0 used root s || (wellAt 1 used root s || (wellAt 2 used root s || wellAt 3 used root s))
+
+-- ---- how it is judged: from the last child to the first, with the link that the last leaf must have; the answer is the
+-- first leaf, which the leaf to its left must link to
+
+abbrev pub innerSound : (used parent p lo hi : ℕ) → List ℕ → InnerSound
+innerSound used parent p lo hi s = pick (soundInner used parent p lo hi s) (InnerSound.Ok (cellCount (page p s))) InnerSound.Ill
+
+abbrev pub onFirst : {A : Type 0} → (ℕ → A) → A → Verdict → A
+onFirst good ill (Verdict.First q) = good q
+onFirst good ill Verdict.Ill = ill
+
+-- the children from the j-th down to the first
+unfoldable pub kidsOf : (ℕ → ℕ → ℕ → ℕ → Verdict) → (lo j hi next : ℕ) → List ℕ → Verdict
+kidsOf f lo zero hi next pg = f (childAt pg 0) lo hi next
+kidsOf f lo (suc j) hi next pg =
+    onFirst (λ q. pick (eqb q 0) Verdict.Ill (kidsOf f lo j (keyAt pg j) q pg)) Verdict.Ill (f (childAt pg (suc j)) (keyAt pg j) hi next)
+
+unfoldable pub checkOf : (k used : ℕ) → List ℕ → (parent p lo hi next : ℕ) → Verdict
+checkOf zero used s parent p lo hi next = pick (soundLeaf used parent p lo hi s && eqb (nextLeaf (page p s)) next) (Verdict.First p) Verdict.Ill
+checkOf (suc k) used s parent p lo hi next =
+    pick (soundInner used parent p lo hi s) (kidsOf (checkOf k used s p) lo (cellCount (page p s)) hi next (page p s)) Verdict.Ill
+
+abbrev pub isFirst : Verdict → Bool
+isFirst v = onFirst (λ q. true) false v

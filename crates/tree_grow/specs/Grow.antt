@@ -1,0 +1,101 @@
+-- What happens above a page that was divided (document 01, section 5; btree.rs, insert_in_parent, split_internal and
+-- pin_root): the separator and the new page are entered above, a page with 511 keys divides in turn, the root grows, and a
+-- root other than 0 keeps its number.
+use mathlib.Core.List.{List, [], _∷_}
+use Prim.Native.Nat.{ℕ, _+_}
+use lib.Dec.{ltb, eqb}
+use Rattle.store.specs.Pick.{pick}
+use Rattle.store.specs.Part.{part, pad}
+use Rattle.page.specs.Page.{page, setPage}
+use Rattle.page.specs.Header.{nodeType, cellCount, withNodeType, withIsRoot, withParent}
+use Rattle.page.specs.Pool.{nextPage, allocated, withFresh}
+use Rattle.page.specs.Key.{rankAt}
+use Rattle.page.specs.declared.pool.State.{State}
+use Rattle.inner.specs.Inner.{keyAt, childAt, childrenOf}
+use Rattle.inner.specs.Route.{childPlace}
+use Rattle.inner_edit.specs.Edit.{withEntry, leftHalf, middleKey, rightHalf, topOf, adopted}
+
+-- the pool and the tree's numbers, which change together
+pub record Grown : Type 0 where
+  pub pool : List ℕ
+  pub state : State
+
+abbrev pub grown : List ℕ → State → Grown
+grown s st = record { pool = s; state = st }
+
+-- page c gets the parent q; two pages do, the first one first
+abbrev pub linked : (c q : ℕ) → List ℕ → List ℕ
+linked c q s = setPage c (withParent q (page c s)) s
+
+abbrev pub linkedBoth : (old new q : ℕ) → List ℕ → List ℕ
+linkedBoth old new q s = linked new q (linked old q s)
+
+-- "the new top": the next page, over the old one and the new
+unfoldable pub topOver : (old sep new : ℕ) → Grown → Grown
+topOver old sep new g = topAt (nextPage (g .pool) (g .state)) (withFresh (g .pool) (g .state)) (allocated (g .pool) (g .state) .state)
+  where
+    topAt : ℕ → List ℕ → State → Grown
+    topAt t s st = grown (linkedBoth old new t (setPage t (topOf old sep new (page t s)) s)) (record { root = t; used = st .used })
+
+-- the place of the child old in page p: the first one
+abbrev pub placeIn : (old : ℕ) → List ℕ → ℕ
+placeIn old pg = childPlace old (childrenOf pg)
+
+-- page p has room: the pair directly after old, and both linked to p
+unfoldable pub joinedTo : (p old sep new : ℕ) → Grown → Grown
+joinedTo p old sep new g =
+    grown (linkedBoth old new p (setPage p (withEntry (placeIn old (page p (g .pool))) sep new (page p (g .pool))) (g .pool))) (g .state)
+
+-- page p has 510 keys and a pair to come after child i: half of it goes to the next page, whose children are linked to it
+unfoldable pub halved : (p i sep new : ℕ) → Grown → Grown
+halved p i sep new g = halvedAt (nextPage (g .pool) (g .state)) (withFresh (g .pool) (g .state)) (allocated (g .pool) (g .state) .state)
+  where
+    halvedAt : ℕ → List ℕ → State → Grown
+    halvedAt q s st = grown (adopted 256 0 q q (setPage p (leftHalf i sep new (page p s)) (setPage q (rightHalf i sep new (page p s) (page q s)) s))) st
+
+-- the separator and the page new are entered above the page old; ps are the pages above it, the nearest first
+unfoldable pub enterOf : (ps : List ℕ) → (old sep new : ℕ) → Grown → Grown
+enterOf [] old sep new g = topOver old sep new g
+enterOf (p ∷ ps) old sep new g =
+    pick (ltb (cellCount (page p (g .pool))) 510) (joinedTo p old sep new g)
+    (enterOf ps p (middleKey (placeIn old (page p (g .pool))) sep new (page p (linked new p (g .pool)))) (nextPage (linked new p (g .pool)) (g .state))
+    (halved p (placeIn old (page p (g .pool))) sep new (grown (linked new p (g .pool)) (g .state))))
+
+-- page p divides, and its right half is entered above it
+abbrev pub divideOf : (ps : List ℕ) → (p i sep new : ℕ) → Grown → Grown
+divideOf ps p i sep new g = enterOf ps p (middleKey i sep new (page p (g .pool))) (nextPage (g .pool) (g .state)) (halved p i sep new g)
+
+-- ---- "Any other root keeps its number: the new top's content goes to it, its old image, is-root cleared, to one more
+-- page, and the spent top page is lost"
+
+-- the image of the page fixed in page z
+abbrev pub movedTo : (fixed z : ℕ) → List ℕ → List ℕ
+movedTo fixed z s = setPage z (withParent fixed (withIsRoot 0 (page fixed s))) s
+
+-- the children of an internal page z are linked to it
+unfoldable pub relinked : (z : ℕ) → List ℕ → List ℕ
+relinked z s = pick (eqb (nodeType (page z s)) 0) (adopted (cellCount (page z s) + 1) 0 z z s) s
+
+-- the top's content in the page that was the root; its bytes 8 to 11 stay
+abbrev pub topIn : (left sep right : ℕ) → List ℕ → List ℕ
+topIn left sep right pg = topOf left sep right (withParent 0 (withNodeType 0 (pad 4096 (part 0 12 pg))))
+
+unfoldable pub pinOf : (fixed : ℕ) → Grown → Grown
+pinOf fixed g =
+    pinAt (nextPage (g .pool) (g .state)) (keyAt (page (g .state .root) (g .pool)) 0) (childAt (page (g .state .root) (g .pool)) 1)
+    (withFresh (g .pool) (g .state))
+    (allocated (g .pool) (g .state) .state)
+  where
+    topped : (z sep new : ℕ) → List ℕ → List ℕ
+    topped z sep new s = linkedBoth z new fixed (setPage fixed (topIn z sep new (page fixed s)) s)
+
+    pinAt : (z sep new : ℕ) → List ℕ → State → Grown
+    pinAt z sep new s st = grown (topped z sep new (relinked z (movedTo fixed z s))) (record { root = fixed; used = st .used })
+
+-- "Root 0 moves to the new top"
+unfoldable pub keptRoot : (original : ℕ) → Grown → Grown
+keptRoot original g = pick (eqb original 0) g (pick (eqb (g .state .root) original) g (pinOf original g))
+
+-- the leaf p has divided, and page q is its right side, whose first key goes up
+unfoldable pub settled : (ps : List ℕ) → (p q : ℕ) → Grown → Grown
+settled ps p q g = keptRoot (g .state .root) (enterOf ps p (rankAt (page q (g .pool)) 12) q g)

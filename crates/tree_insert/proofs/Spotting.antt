@@ -1,0 +1,180 @@
+-- Where a new version goes: the leaf that the descent comes to is in use and a leaf, it is judged, and the place is between
+-- two of its cells; and the ways out of the search for it, one law each. Assumes nothing.
+use mathlib.Core.Path.{_≡_, refl, sym, ap, _∙_}
+use mathlib.Core.Bool.{Bool, true, false}
+use mathlib.Core.List.{List, [], _∷_}
+use Prim.Native.Nat.{ℕ, zero, suc, _+_, _*_, _≤_, _<_}
+use native.Mathlib.Omega.{arith}
+use borrow.Author.Tests.{ltb-true, eqb-true}
+use lib.Dec.{ltb, eqb}
+use lib.ListN.{length, take}
+use Rattle.store.specs.Pick.{pick}
+use Rattle.store.specs.Le.{AreBytes}
+use Rattle.page.specs.Page.{page}
+use Rattle.page.specs.Header.{nodeType, cellCount}
+use Rattle.page.proofs.PageLaws.{length-page}
+use Rattle.row.specs.declared.Cell.{Cell}
+use Rattle.row.specs.declared.Fault.{Fault}
+use Rattle.row.proofs.Exact.{cell-placed}
+use Rattle.inner.specs.Inner.{judgeInner, structural}
+use Rattle.inner.specs.declared.InnerJudged.{InnerJudged}
+use Rattle.leaf.specs.Cells.{cells, foldCells, inOrder, judgeLeaf, onJudged}
+use Rattle.leaf.specs.Place.{placeStep, placeOf, placeLeaf}
+use Rattle.leaf.specs.RowFacts.{Sound}
+use Rattle.leaf.specs.declared.Judged.{Judged}
+use Rattle.leaf.specs.declared.place.Place.{Place}
+use Rattle.leaf.specs.declared.place.LeafPlace.{LeafPlace}
+use Rattle.leaf.proofs.Bytes.{bytes-page}
+use Rattle.leaf.proofs.Rowing.{endOf}
+use Rattle.leaf.proofs.Chain.{Chain, chain-cells, judged-leaf}
+use Rattle.leaf.proofs.Placed.{PlaceSplit, place-split}
+use Rattle.leaf.proofs.Choosing.{any-page}
+use Rattle.tree.specs.Descend.{onInner, childOf, descendOf, onLeaf}
+use Rattle.tree.specs.declared.Route.{Route}
+use Rattle.tree.specs.declared.Descent.{Descent}
+use Rattle.tree_insert.specs.Spot.{spotIn, spotOf}
+use Rattle.tree_insert.specs.declared.Spot.{Spot}
+use Rattle.tree_insert.specs.declared.Spotted.{Spotted}
+
+-- ---- the leaf that a descent comes to
+
+pub record LeafIn (used p : ℕ) (s : List ℕ) : Type 0 where
+  pub in-use : p < used
+  pub kind : nodeType (page p s) ≡ 1
+
+module _ (route : Route) (used : ℕ) (s : List ℕ) where
+  here-is : (p q : ℕ) (rest : Descent) → (rest ≡ Descent.Leaf q → LeafIn used q s)
+      → pick (ltb p used) (pick (eqb (nodeType (page p s)) 1) (Descent.Leaf p) rest) (Descent.Bad (structural p)) ≡ Descent.Leaf q → LeafIn used q s
+  here-is p q rest ih e = by-tests (ltb p used) (eqb (nodeType (page p s)) 1) refl refl e
+    where
+      by-tests : (a b : Bool) → ltb p used ≡ a → eqb (nodeType (page p s)) 1 ≡ b → pick a (pick b (Descent.Leaf p) rest) (Descent.Bad (structural p)) ≡ Descent.Leaf q → LeafIn used q s
+      by-tests true true u v w =
+          let same : p ≡ q = cc in
+          rw (← same) (record { in-use = ltb-true p used u; kind = eqb-true (nodeType (page p s)) 1 v })
+      by-tests true false u v w = ih w
+      by-tests false b u v w = absurd (let z : _≡_ {A = ℕ} 0 1 = cc in omega arith)
+
+  pub leaf-in : (k p : ℕ) {q : ℕ} → descendOf k route used p s ≡ Descent.Leaf q → LeafIn used q s
+  unfolding descendOf
+  leaf-in zero p {q} e = here-is p q (Descent.Bad (structural p)) (λ w. absurd (let z : _≡_ {A = ℕ} 0 1 = cc in omega arith)) e
+  leaf-in (suc k) p {q} e = here-is p q (onInner (λ n. descendOf k route used (childOf route p n s) s) (λ f. Descent.Bad f) (judgeInner p (page p s))) (by-inner (judgeInner p (page p s)) (λ n. leaf-in k (childOf route p n s))) e
+    where
+      by-inner : (j : InnerJudged) → ((n : ℕ) → descendOf k route used (childOf route p n s) s ≡ Descent.Leaf q → LeafIn used q s)
+          → onInner (λ n. descendOf k route used (childOf route p n s) s) (λ f. Descent.Bad f) j ≡ Descent.Leaf q → LeafIn used q s
+      by-inner (InnerJudged.Ok n) ih w = ih n w
+      by-inner (InnerJudged.Bad f) ih w = absurd (let z : _≡_ {A = ℕ} 0 1 = cc in omega arith)
+
+-- ---- the ways out
+
+module _ (used root key creator : ℕ) (s : List ℕ) {d : Descent} (way : d ≡ descendOf 3 (Route.Insert key) used root s) where
+  pub spot-lost : {f : Fault} → d ≡ Descent.Bad f → Spotted.Bad f ≡ spotOf used root key creator s
+  unfolding spotOf
+  spot-lost e = rw (sym way ∙ e)
+
+  module _ {p : ℕ} {pg : List ℕ} {r : LeafPlace} (e : d ≡ Descent.Leaf p) (here : pg ≡ page p s) (said : r ≡ placeLeaf p key creator pg) where
+    placed-is : placeLeaf p key creator (page p s) ≡ r
+    placed-is = rw (← here) (sym said)
+
+    pub spot-bad : {f : Fault} → r ≡ LeafPlace.Bad f → Spotted.Bad f ≡ spotOf used root key creator s
+    unfolding spotOf
+    spot-bad q = rw (sym way ∙ e, placed-is ∙ q)
+
+    pub spot-there : {x : Place} {n : ℕ} → r ≡ LeafPlace.Ok x n → Spotted.Ok (record { leaf = p; place = x; end = n }) ≡ spotOf used root key creator s
+    unfolding spotOf
+    spot-there q = rw (sym way ∙ e, placed-is ∙ q)
+
+-- ---- the spot
+
+-- at least 19 bytes a cell
+cells-room : (pg : List ℕ) (at : ℕ) (cs : List Cell) → Chain pg at cs → at + 19 * length cs ≤ endOf at cs
+unfolding endOf
+cells-room pg at [] h = omega arith
+cells-room pg at (c ∷ cs) h = let p = cell-placed pg at c (h .0) in omega (arith, cells-room pg (c .next) cs (h .1), p .past-head, p .whole)
+
+-- no more cells stand before the place than there are
+place-among : (k c : ℕ) (here : Place) (cs : List Cell) → foldCells (placeStep k c) here cs .before ≤ here .before + length cs
+unfolding foldCells
+place-among k c here [] = omega arith
+place-among k c here (x ∷ xs) = by-order (inOrder (x .key) (x .version .creator) k c) (λ y. place-among k c y xs)
+  where
+    by-order : (b : Bool) → ((y : Place) → foldCells (placeStep k c) y xs .before ≤ y .before + length xs)
+        → foldCells (placeStep k c) (pick b (record { at = x .next; before = here .before + 1 }) here) xs .before ≤ here .before + suc (length xs)
+    by-order true ih = omega (arith, ih (record { at = x .next; before = here .before + 1 }))
+    by-order false ih = omega (arith, ih here)
+
+-- what a judgement says of the place
+pub record PlaceIs (pg : List ℕ) (p k c : ℕ) (x : Place) (e : ℕ) : Type 0 where
+  pub judged : judgeLeaf p pg ≡ Judged.Ok e
+  pub place : x ≡ placeOf k c (cells pg)
+
+pub place-is : (pg : List ℕ) (p k c : ℕ) {x : Place} {e : ℕ} → placeLeaf p k c pg ≡ LeafPlace.Ok x e → PlaceIs pg p k c x e
+unfolding placeLeaf
+place-is pg p k c {x} {e} h = by-judged (judgeLeaf p pg) refl h
+  where
+    by-judged : (j : Judged) → judgeLeaf p pg ≡ j → onJudged (λ n. LeafPlace.Ok (placeOf k c (cells pg)) n) (λ f. LeafPlace.Bad f) j ≡ LeafPlace.Ok x e → PlaceIs pg p k c x e
+    by-judged (Judged.Ok n) q w =
+        let same : n ≡ e = cc in
+        let at : placeOf k c (cells pg) ≡ x = cc in
+        record { judged = rw (← same) q; place = sym at }
+    by-judged (Judged.Bad f) q w = absurd (let z : _≡_ {A = ℕ} 0 1 = cc in omega arith)
+
+pub record SpotIs (used key creator : ℕ) (s : List ℕ) (x : Spot) : Type 0 where
+  pub in-use : x .leaf < used
+  pub there : x .leaf * 4096 + 4096 ≤ length s
+  pub kind : nodeType (page (x .leaf) s) ≡ 1
+  pub sound : Sound (page (x .leaf) s) (x .end)
+  pub split : PlaceSplit (page (x .leaf) s) (x .end) key creator
+  pub place : x .place ≡ record { at = endOf 12 (take (split .count) (cells (page (x .leaf) s))); before = split .count }
+  pub low : 12 ≤ x .place .at
+  pub inside : x .place .at ≤ x .end
+  pub within : x .end ≤ 4096
+  pub among : x .place .before ≤ cellCount (page (x .leaf) s)
+  pub few : cellCount (page (x .leaf) s) < 16384
+
+-- what is told of the leaf and of the place in it
+record Told (used key creator : ℕ) (s : List ℕ) (x : Spot) : Type 0 where
+  leaf : LeafIn used (x .leaf) s
+  placed : PlaceIs (page (x .leaf) s) (x .leaf) key creator (x .place) (x .end)
+
+told : (used root key creator : ℕ) (s : List ℕ) (x : Spot) → spotOf used root key creator s ≡ Spotted.Ok x → Told used key creator s x
+unfolding spotOf
+told used root key creator s x e = by-way (descendOf 3 (Route.Insert key) used root s) refl e
+  where
+    by-place : (p : ℕ) (r : LeafPlace) → LeafIn used p s → placeLeaf p key creator (page p s) ≡ r → spotIn p r ≡ Spotted.Ok x → Told used key creator s x
+    by-place p (LeafPlace.Ok here n) l q w =
+        let same : record { leaf = p; place = here; end = n } ≡ x = cc in
+        rw (← same) (record { leaf = l; placed = place-is (page p s) p key creator q })
+    by-place p (LeafPlace.Bad f) l q w = absurd (let z : _≡_ {A = ℕ} 0 1 = cc in omega arith)
+
+    by-way : (d : Descent) → descendOf 3 (Route.Insert key) used root s ≡ d
+        → onLeaf (λ p. spotIn p (placeLeaf p key creator (page p s))) (λ f. Spotted.Bad f) d ≡ Spotted.Ok x → Told used key creator s x
+    by-way (Descent.Leaf p) q w = by-place p (placeLeaf p key creator (page p s)) (leaf-in (Route.Insert key) used s 3 root q) refl w
+    by-way (Descent.Bad f) q w = absurd (let z : _≡_ {A = ℕ} 0 1 = cc in omega arith)
+
+pub spot-is : (used root key creator : ℕ) (s : List ℕ) (x : Spot) → AreBytes s → used * 4096 ≤ length s → spotOf used root key creator s ≡ Spotted.Ok x
+    → SpotIs used key creator s x
+unfolding placeOf
+spot-is used root key creator s x B room e =
+    let t = told used root key creator s x e in
+    let pg = page (x .leaf) s in
+    let low : x .leaf < used = t .leaf .in-use in
+    let long : x .leaf * 4096 + 4096 ≤ length s = omega arith in
+    let sound : Sound pg (x .end) = record { bytes = bytes-page (x .leaf) s B; whole = length-page (x .leaf) s long; judged = any-page (x .leaf) 0 (x .end) pg (t .placed .judged) } in
+    let p = place-split pg (x .end) key creator sound in
+    let all = judged-leaf 0 pg (x .end) (sound .judged) in
+    let place = t .placed .place ∙ p .here in
+    let at : x .place .at ≡ endOf 12 (take (p .count) (cells pg)) = ap (λ (y : Place). y .at) place in
+    let i = p .split in
+    record {
+      in-use = low;
+      there = long;
+      kind = t .leaf .kind;
+      sound = sound;
+      split = p;
+      place = place;
+      low = rw at (i .low);
+      inside = rw at (i .high);
+      within = i .within;
+      among = rw (t .placed .place) (omega (arith, place-among key creator (record { at = 12; before = 0 }) (cells pg), all .count));
+      few = omega (arith, cells-room pg 12 (cells pg) (chain-cells pg (cellCount pg) 12), all .count, all .end, i .within);
+    }

@@ -1,0 +1,4 @@
+-- What a reader of the contracts of `tree_insert` has to believe.
+pub mod Spot
+pub mod Insert
+pub mod Ready

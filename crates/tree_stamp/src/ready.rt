@@ -1,0 +1,119 @@
+// What a stamp would do (document 01, sections 4 to 6), judged on the unchanged pool: it can be asked without storing.
+ghost use mathlib.Core.Path.{_≡_};
+ghost use mathlib.Core.Bool.{true};
+ghost use Rattle.page.specs.Page.{page};
+ghost use Rattle.page.specs.Pool.{goodPool};
+ghost use Rattle.tree_room.specs.Room.{noFault};
+ghost use Rattle.tree_stamp.specs.Target.{targetOf, Met};
+ghost use Rattle.tree_stamp.specs.Ready.{notMarking, markingByRoom, markingAt};
+use crate::Beside;
+use crate::Target;
+use page::PAGE_SIZE;
+use page::pool::State;
+use row::Cell;
+use row::Fault;
+use row::Pointer;
+use row::Stamp;
+use row::Version;
+use tree::ChainTest;
+use tree::climb::Path;
+use tree_room::Planned;
+
+// Where it is ok, the target can be stamped by that plan; otherwise the number of the refusal, and the fault behind a
+// BadTree.
+pub struct Marking {
+    pub ok: bool,
+    pub number: u8,
+    pub fault: Fault,
+    pub target: Target,
+    pub plan: Planned,
+}
+
+pub fn refused_by(number: u8, fault: Fault) -> Marking
+    ensures { λ r. ⌜ r ≡ notMarking number fault ⌝ }
+{
+    let version = Version {
+        creator: 0,
+        stamp: Stamp::Absent,
+        pointer: Pointer::Absent,
+        start: 0,
+        len: 0,
+    };
+    Marking {
+        ok: false,
+        number,
+        fault,
+        target: Target {
+            leaf: 0,
+            cell: Cell {
+                key: 0,
+                at: 0,
+                next: 0,
+                version,
+            },
+            beside: Beside { before: 0, end: 0 },
+        },
+        plan: tree_room::fits_as(Path {
+            pages: [0u32; 4],
+            len: 0,
+        }),
+    }
+}
+
+pub fn refused(number: u8) -> Marking
+    ensures { λ r. ⌜ r ≡ notMarking number noFault ⌝ }
+{
+    refused_by(
+        number,
+        Fault {
+            kind: 0,
+            page: 0,
+            offset: 0,
+        },
+    )
+}
+
+fn by_room(t: Target, plan: Planned, n: u8) -> Marking
+    ensures { λ r. ⌜ r ≡ markingByRoom t plan n ⌝ }
+{
+    if n == 0 {
+        return Marking {
+            ok: true,
+            number: 0,
+            fault: Fault {
+                kind: 0,
+                page: 0,
+                offset: 0,
+            },
+            target: t,
+            plan,
+        };
+    }
+    refused(n)
+}
+
+// The target is found; test is what the conflict test says of it.
+pub fn marking_at(pool: &[u8], st: State, test: ChainTest, t: Target) -> Marking
+    requires { ⌜ (goodPool (now pool) st ≡ true) × Met (st .used) (t .leaf) (t .cell) (now pool) × (t ≡ targetOf (t .leaf) (t .cell) (page (t .leaf) (now pool))) ⌝ }
+    ensures { λ r. ⌜ r ≡ markingAt (now (pool .entry)) st test t ⌝ }
+{
+    let told = crate::plan_stamp(pool, st, t);
+    let plan = told.plan;
+    if !told.ok {
+        return refused_by(2, told.fault);
+    }
+    match test {
+        ChainTest::Bad(f) => refused_by(2, f),
+        ChainTest::Ok(conflict) => {
+            if conflict {
+                return refused(7);
+            }
+            let pages = pool.len() / PAGE_SIZE;
+            by_room(
+                t,
+                plan,
+                tree_room::refusal(pages, st, crate::bytes_stamped(t), plan),
+            )
+        }
+    }
+}

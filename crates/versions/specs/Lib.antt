@@ -1,3 +1,0 @@
--- What a reader of the contracts of `versions` has to believe.
-pub mod Gather
-pub mod Listed

@@ -1,8 +1,0 @@
--- Laws of `views` for the crates above.
-pub mod Keeping
-pub mod Tails
-pub mod Viewing
-pub mod Making
-pub mod Rowing
-pub mod Entering
-pub mod Stepping

@@ -1,2 +1,0 @@
--- Laws of `writes` for its own proofs.
-pub mod Calls

@@ -1,3 +1,0 @@
--- What a reader of the contracts of `writes` has to believe.
-pub mod Answer
-pub mod Insert
