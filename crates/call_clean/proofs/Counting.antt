@@ -13,7 +13,6 @@ use Rattle.row.specs.Read.{cellAt}
 use Rattle.row.specs.declared.Cell.{Cell}
 use Rattle.row.specs.declared.Fault.{Fault}
 use Rattle.row.specs.declared.read.CellRead.{CellRead}
-use Rattle.row.proofs.Exact.{cell-placed}
 use Rattle.mvcc.specs.Vacuum.{fate}
 use Rattle.mvcc.specs.declared.vacuum.Fate.{Fate}
 use Rattle.leaf.specs.Cells.{onCell, cells, foldCells, judgeLeaf, onJudged, hasLarger}
@@ -21,14 +20,15 @@ use Rattle.leaf.specs.Find.{running, runLeaf}
 use Rattle.leaf.specs.declared.Judged.{Judged}
 use Rattle.leaf.specs.declared.find.Run.{Run}
 use Rattle.leaf.specs.declared.find.LeafRun.{LeafRun}
-use Rattle.leaf.proofs.Finding.{running-below, running-same, running-above}
-use Rattle.leaf.proofs.Rowing.{endOf}
-use Rattle.leaf.proofs.Chain.{Chain, chain-cells, chain-inside, judged-leaf}
 use Rattle.leaf_edit.specs.Edit.{without}
 use Rattle.leaf_vacuum.specs.Vacuum.{onFate, withoutStamp, sweep}
 use Rattle.leaf_vacuum.specs.declared.Vacuumed.{Vacuumed}
 use Rattle.tree.specs.Chain.{Seen, stop, go, broken}
 use Rattle.call_clean.specs.Remove.{seenRun}
+use Rattle.row.proofs.Exact.{cell-placed}
+use Rattle.leaf.proofs.Finding.{running-below, running-same, running-above}
+use Rattle.leaf.proofs.Rowing.{endOf}
+use Rattle.leaf.proofs.Chain.{Chain, chain-cells, chain-inside, judged-leaf}
 
 -- ---- the run of a key
 
@@ -75,7 +75,7 @@ chain-few s at (c ∷ cs) h =
     let p = cell-placed s at c (h .0) in
     omega (arith, p .past-head, p .whole, chain-few s (c .next) cs (h .1))
 
-pub run-is : (p key : ℕ) (pg : List ℕ) → length pg ≡ 4096 → {r : LeafRun} {run : Run} {e : ℕ} {larger : Bool} → r ≡ runLeaf p key pg → r ≡ LeafRun.Ok run e larger → RunIs pg run e
+pub run-is : (p key : ℕ) (pg : List ℕ) → length pg ≡ 4096 → {r : LeafRun} {run : Run} {e : ℕ} {larger : Bool} → r ≡ runLeaf pg p key → r ≡ LeafRun.Ok run e larger → RunIs pg run e
 unfolding runLeaf
 run-is p key pg len {r} {run} {e} {larger} q u = by-judged (judgeLeaf p pg) refl (sym q ∙ u)
   where

@@ -9,7 +9,6 @@ use borrow.Author.Tests.{lt-ltb, le-ltb, eq-eqb, ne-eqb}
 use borrow.Rule.Slice.PartMut.{putMid}
 use Rattle.page.specs.Page.{page, setPage}
 use Rattle.page.specs.Header.{cellCount, nextLeaf}
-use Rattle.page.proofs.PageLaws.{back-page}
 use Rattle.row.specs.declared.Fault.{Fault}
 use Rattle.leaf.specs.Cells.{judgeLeaf}
 use Rattle.leaf.specs.Find.{runLeaf}
@@ -18,9 +17,10 @@ use Rattle.leaf.specs.declared.find.Run.{Run}
 use Rattle.leaf.specs.declared.find.LeafRun.{LeafRun}
 use Rattle.leaf_edit.specs.Edit.{without}
 use Rattle.leaf_vacuum.specs.declared.Vacuumed.{Vacuumed}
-use Rattle.call_read.specs.Answer.{ended}
+use Rattle.call_answers.specs.Answer.{ended}
 use Rattle.call_clean.specs.Remove.{withoutRun, removedAlong}
 use Rattle.call_clean.specs.Vacuum.{sweptLeaf, vacuumedAlong}
+use Rattle.page.proofs.PageLaws.{back-page}
 
 -- what the pool is when the lent page p has come back as x
 pub page-made : (p : ℕ) (s : List ℕ) {y x : List ℕ} → y ≡ x → putMid (p * 4096) (p * 4096 + 4096 - p * 4096) s y ≡ setPage p x s
@@ -38,35 +38,35 @@ module _ (run : Run) (e : ℕ) (pg : List ℕ) where
 -- ---- remove
 
 module _ (used key p : ℕ) (s : List ℕ) where
-  pub remove-none : (m : ℕ) → m ≤ 0 → s ≡ removedAlong used m key p s
+  pub remove-none : (m : ℕ) → m ≤ 0 → s ≡ removedAlong s used p key m
   unfolding removedAlong
   remove-none zero h = refl
   remove-none (suc m) h = absurd (omega arith)
 
-  pub remove-unused : (m : ℕ) → used ≤ p → s ≡ removedAlong used m key p s
+  pub remove-unused : (m : ℕ) → used ≤ p → s ≡ removedAlong s used p key m
   unfolding removedAlong
   remove-unused zero h = refl
   remove-unused (suc m) h = rw (le-ltb p used h)
 
-  module _ (h : p < used) {r : LeafRun} (said : r ≡ runLeaf p key (page p s)) where
-    pub remove-bad : (m : ℕ) {f : Fault} → r ≡ LeafRun.Bad f → s ≡ removedAlong used m key p s
+  module _ (h : p < used) {r : LeafRun} (said : r ≡ runLeaf (page p s) p key) where
+    pub remove-bad : (m : ℕ) {f : Fault} → r ≡ LeafRun.Bad f → s ≡ removedAlong s used p key m
     unfolding removedAlong
     remove-bad zero e = refl
     remove-bad (suc m) e = rw (lt-ltb p used h, sym said ∙ e)
 
     module _ {run : Run} {e : ℕ} {larger : Bool} (good : r ≡ LeafRun.Ok run e larger) {t : List ℕ} (made : t ≡ setPage p (withoutRun run e (page p s)) s) where
-      pub remove-last : (m : ℕ) → 0 < m → larger ≡ true → t ≡ removedAlong used m key p s
+      pub remove-last : (m : ℕ) → 0 < m → larger ≡ true → t ≡ removedAlong s used p key m
       unfolding removedAlong
       remove-last zero z l = absurd (omega arith)
       remove-last (suc m) z l = made ∙ rw (lt-ltb p used h, sym said ∙ good, l)
 
       module _ {n : ℕ} (next : n ≡ nextLeaf (page p s)) where
-        pub remove-end : (m : ℕ) → 0 < m → larger ≡ false → n ≡ 0 → t ≡ removedAlong used m key p s
+        pub remove-end : (m : ℕ) → 0 < m → larger ≡ false → n ≡ 0 → t ≡ removedAlong s used p key m
         unfolding removedAlong
         remove-end zero z l q = absurd (omega arith)
         remove-end (suc m) z l q = made ∙ rw (lt-ltb p used h, sym said ∙ good, l, eq-eqb (nextLeaf (page p s)) 0 (sym next ∙ q))
 
-        pub remove-on : (m : ℕ) → 0 < m → larger ≡ false → (n ≡ 0 → ⊥) → removedAlong used (m - 1) key n t ≡ removedAlong used m key p s
+        pub remove-on : (m : ℕ) → 0 < m → larger ≡ false → (n ≡ 0 → ⊥) → removedAlong t used n key (m - 1) ≡ removedAlong s used p key m
         unfolding removedAlong
         remove-on zero z l q = absurd (omega arith)
         remove-on (suc m) z l q =
@@ -76,30 +76,30 @@ module _ (used key p : ℕ) (s : List ℕ) where
 -- ---- vacuum
 
 module _ (st : ℕ → ℕ) (bound used d p : ℕ) (s : List ℕ) where
-  pub vacuum-none : (m : ℕ) → m ≤ 0 → ended d s ≡ vacuumedAlong st bound used m d p s
+  pub vacuum-none : (m : ℕ) → m ≤ 0 → ended d s ≡ vacuumedAlong s used p st bound m d
   unfolding vacuumedAlong
   vacuum-none zero h = refl
   vacuum-none (suc m) h = absurd (omega arith)
 
-  pub vacuum-unused : (m : ℕ) → used ≤ p → ended d s ≡ vacuumedAlong st bound used m d p s
+  pub vacuum-unused : (m : ℕ) → used ≤ p → ended d s ≡ vacuumedAlong s used p st bound m d
   unfolding vacuumedAlong
   vacuum-unused zero h = refl
   vacuum-unused (suc m) h = rw (le-ltb p used h)
 
   module _ (h : p < used) {r : Judged} (said : r ≡ judgeLeaf p (page p s)) where
-    pub vacuum-bad : (m : ℕ) {f : Fault} → r ≡ Judged.Bad f → ended d s ≡ vacuumedAlong st bound used m d p s
+    pub vacuum-bad : (m : ℕ) {f : Fault} → r ≡ Judged.Bad f → ended d s ≡ vacuumedAlong s used p st bound m d
     unfolding vacuumedAlong
     vacuum-bad zero e = refl
     vacuum-bad (suc m) e = rw (lt-ltb p used h, sym said ∙ e)
 
     module _ {e : ℕ} (good : r ≡ Judged.Ok e) {w : Vacuumed} (told : w ≡ sweptLeaf st bound e (page p s) .told) {t : List ℕ}
         (made : t ≡ setPage p (sweptLeaf st bound e (page p s) .page) s) {n : ℕ} (next : n ≡ nextLeaf (page p s)) where
-      pub vacuum-end : (m : ℕ) → 0 < m → n ≡ 0 → ended (d + w .dropped) t ≡ vacuumedAlong st bound used m d p s
+      pub vacuum-end : (m : ℕ) → 0 < m → n ≡ 0 → ended (d + w .dropped) t ≡ vacuumedAlong s used p st bound m d
       unfolding vacuumedAlong
       vacuum-end zero z q = absurd (omega arith)
       vacuum-end (suc m) z q = rw (told, made, lt-ltb p used h, sym said ∙ good, eq-eqb (nextLeaf (page p s)) 0 (sym next ∙ q))
 
-      pub vacuum-on : (m : ℕ) → 0 < m → (n ≡ 0 → ⊥) → vacuumedAlong st bound used (m - 1) (d + w .dropped) n t ≡ vacuumedAlong st bound used m d p s
+      pub vacuum-on : (m : ℕ) → 0 < m → (n ≡ 0 → ⊥) → vacuumedAlong t used n st bound (m - 1) (d + w .dropped) ≡ vacuumedAlong s used p st bound m d
       unfolding vacuumedAlong
       vacuum-on zero z q = absurd (omega arith)
       vacuum-on (suc m) z q =

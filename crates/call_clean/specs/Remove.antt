@@ -17,11 +17,11 @@ use Rattle.leaf_edit.specs.Edit.{without}
 use Rattle.tree.specs.Chain.{Seen, stop, go, broken, Told, ok, ill, along}
 use Rattle.tree.specs.Descend.{descendOf, onLeaf}
 use Rattle.tree.specs.declared.Route.{Route}
-use Rattle.call_read.specs.Answer.{Outcome, Ended, ended}
-use Rattle.call_read.specs.Find.{plain, badTree}
-use Rattle.call_clean.specs.Answer.{notCleared, clearedEnd}
-use Rattle.call_clean.specs.declared.Cleared.{Cleared}
+use Rattle.call_answers.specs.Answer.{ended, Ended, Outcome, faulty, refusalOf, hideCountEnd}
+use Rattle.call_clean.specs.Answer.{notCleared}
+use Rattle.call_answers.specs.declared.CountedAt.{CountedAt}
 use Rattle.call_clean.specs.declared.remove.ChainCount.{ChainCount}
+use Rattle.call_answers.specs.Names.{BadPool, unless}
 
 -- ---- the walk: how many versions of the key it meets
 
@@ -31,14 +31,14 @@ seenRun n (LeafRun.Ok run e false) = go (n + run .count)
 seenRun n (LeafRun.Bad f) = broken f
 
 abbrev pub lookRun : (key : ℕ) → ℕ → ℕ → List ℕ → Seen ℕ
-lookRun key n p pg = seenRun n (runLeaf p key pg)
+lookRun key n p pg = seenRun n (runLeaf pg p key)
 
 abbrev pub toldCount : Told ℕ → ChainCount
 toldCount (ok n) = ChainCount.Ok n
 toldCount (ill f) = ChainCount.Bad f
 
-unfoldable pub countAlong : (used key p : ℕ) → List ℕ → ChainCount
-countAlong used key p s = toldCount (along (lookRun key) used used 0 p s)
+unfoldable pub countAlong : List ℕ → (used p key : ℕ) → ChainCount
+countAlong s used p key = toldCount (along (lookRun key) used used 0 p s)
 
 -- ---- the stores
 
@@ -51,14 +51,14 @@ abbrev pub withoutRun : Run → (e : ℕ) → List ℕ → List ℕ
 withoutRun run e pg = pick (eqb (run .count) 0) pg (without (run .from) (run .to) (run .count) e (cellCount pg) pg)
 
 -- from page p, m leaves at most
-unfoldable pub removedAlong : (used m key p : ℕ) → List ℕ → List ℕ
-removedAlong used zero key p s = s
-removedAlong used (suc m) key p s =
+unfoldable pub removedAlong : List ℕ → (used p key m : ℕ) → List ℕ
+removedAlong s used p key zero = s
+removedAlong s used p key (suc m) =
     pick (ltb p used)
     (onRun
-    (λ run e larger. pick larger (clean run e) (pick (eqb (nextLeaf (page p s)) 0) (clean run e) (removedAlong used m key (nextLeaf (page p s)) (clean run e))))
+    (λ run e larger. pick larger (clean run e) (pick (eqb (nextLeaf (page p s)) 0) (clean run e) (removedAlong (clean run e) used (nextLeaf (page p s)) key m)))
     s
-    (runLeaf p key (page p s)))
+    (runLeaf (page p s) p key))
     s
   where
     clean : Run → ℕ → List ℕ
@@ -71,12 +71,11 @@ onCount good bad (ChainCount.Ok n) = good n
 onCount good bad (ChainCount.Bad f) = bad f
 
 -- 1, 2
-unfoldable pub removeRun : List ℕ → State → (key : ℕ) → Ended Cleared
+unfoldable pub removeRun : List ℕ → State → (key : ℕ) → Ended CountedAt
 removeRun s st key =
-    pick (goodPool s st)
-    (onLeaf (λ p. onCount (λ n. ended (Cleared.Done n) (removedAlong (st .used) (st .used) key p s)) (λ f. notCleared s (badTree f)) (countAlong (st .used) key p s)) (λ f. notCleared s (badTree f))
+    unless (goodPool s st) (notCleared s (refusalOf BadPool))
+    (onLeaf (λ p. onCount (λ n. ended (CountedAt.Done n) (removedAlong s (st .used) p key (st .used))) (λ f. notCleared s (faulty f)) (countAlong s (st .used) p key)) (λ f. notCleared s (faulty f))
     (descendOf 3 (Route.Search key) (st .used) (st .root) s))
-    (notCleared s (plain 1))
 
 unfoldable pub removeCall : List ℕ → State → (key : ℕ) → Ended (Outcome ℕ)
-removeCall s st key = clearedEnd (removeRun s st key)
+removeCall s st key = hideCountEnd (removeRun s st key)

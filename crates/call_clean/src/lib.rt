@@ -5,13 +5,17 @@ pub mod vacuum;
 
 ghost use mathlib.Core.Path.{_≡_};
 ghost use Rattle.page.specs.Key.{rankOf};
-ghost use Rattle.call_read.specs.Answer.{ended};
-ghost use Rattle.call_read.specs.Find.{plain, badTree};
-ghost use Rattle.call_clean.specs.Answer.{ofDropped, clearedOutcome};
+ghost use Rattle.call_answers.specs.Answer.{ended, faulty, refusalOf, ofCounted};
 ghost use Rattle.call_clean.specs.Remove.{removeRun, removeCall};
 ghost use Rattle.call_clean.specs.Vacuum.{vacuumRun, vacuumCall};
-ghost use Rattle.call_clean.specs.declared.Cleared.{Cleared};
-use call_read::Refusal;
+ghost use Rattle.call_answers.specs.declared.CountedAt.{CountedAt};
+ghost use Rattle.mvcc.specs.Snapshot.{statuses};
+use call_answers::BAD_POOL;
+use call_answers::BAD_STATUSES;
+use call_answers::BAD_TREE;
+use call_answers::Counted;
+use call_answers::CountedAt;
+use call_answers::Refusal;
 use page::pool::State;
 use remove::ChainCount;
 use row::Fault;
@@ -19,95 +23,71 @@ use tree::Descent;
 use tree::Route;
 use vacuum::ChainJudged;
 
-// How many versions were dropped, or the refusal with the fault behind a BadTree.
-pub enum Cleared {
-    Done(usize),
-    Refused(Refusal),
-}
-
-pub enum Dropped {
-    Done(usize),
-    Refused(u8),
-}
-
-fn bad_tree(f: Fault) -> Cleared
-    ensures { λ r. ⌜ r ≡ Cleared.Refused (badTree f) ⌝ }
+fn bad_tree(f: Fault) -> CountedAt
+    ensures { λ r. ⌜ r ≡ CountedAt.Refused (faulty f) ⌝ }
 {
-    Cleared::Refused(Refusal {
-        number: 2,
+    CountedAt::Refused(Refusal {
+        number: BAD_TREE,
         fault: f,
     })
 }
 
-fn refused(number: u8) -> Cleared
-    ensures { λ r. ⌜ r ≡ Cleared.Refused (plain number) ⌝ }
+fn refused(number: u8) -> CountedAt
+    ensures { λ r. ⌜ r ≡ CountedAt.Refused (refusalOf number) ⌝ }
 {
-    Cleared::Refused(Refusal {
+    CountedAt::Refused(Refusal {
         number,
-        fault: Fault {
-            kind: 0,
-            page: 0,
-            offset: 0,
-        },
+        fault: row::NO_FAULT,
     })
 }
 
-fn dropped_of(r: Cleared) -> Dropped
-    ensures { λ q. ⌜ ofDropped q ≡ clearedOutcome r ⌝ }
-{
-    match r {
-        Cleared::Done(n) => Dropped::Done(n),
-        Cleared::Refused(f) => Dropped::Refused(f.number),
-    }
-}
-
 // Remove by rank, with the fault behind a BadTree.
-pub fn remove_at(pool: &mut [u8], st: State, key: u32) -> Cleared
+pub fn remove_at(pool: &mut [u8], st: State, key: u32) -> CountedAt
     ensures { λ r. ⌜ ended r (now (pool .exit)) ≡ removeRun (now (pool .entry)) st key ⌝ }
 {
     if !page::pool::pool_is_good(pool, st) {
-        return refused(1);
+        return refused(BAD_POOL);
     }
     match tree::descend(pool, st.used, st.root, Route::Search(key)) {
         Descent::Bad(f) => bad_tree(f),
-        Descent::Leaf(p) => match remove::count_along(pool, st.used, key, p) {
+        Descent::Leaf(p) => match remove::count_along(pool, st.used, p, key) {
             ChainCount::Bad(f) => bad_tree(f),
             ChainCount::Ok(n) => {
-                remove::remove_along(pool, st.used, key, p);
-                Cleared::Done(n)
+                remove::remove_along(pool, st.used, p, key);
+                CountedAt::Done(n)
             }
         },
     }
 }
 
-pub fn remove_all_versions(pool: &mut [u8], st: State, key: i32) -> Dropped
-    ensures { λ r. ⌜ ended (ofDropped r) (now (pool .exit)) ≡ removeCall (now (pool .entry)) st (rankOf key) ⌝ }
+pub fn remove_all_versions(pool: &mut [u8], st: State, key: i32) -> Counted
+    ensures { λ r. ⌜ ended (ofCounted r) (now (pool .exit)) ≡ removeCall (now (pool .entry)) st (rankOf key) ⌝ }
 {
     let rank = page::key::rank_of(key);
-    dropped_of(remove_at(pool, st, rank))
+    call_answers::counted_of(remove_at(pool, st, rank))
 }
 
 // Vacuum, with the fault behind a BadTree.
-pub fn vacuum_at(pool: &mut [u8], st: State, bound: u64, ids: &[u64], states: &[u8]) -> Cleared
-    ensures { λ r. ⌜ ended r (now (pool .exit)) ≡ vacuumRun (now (pool .entry)) st bound (now (ids .entry)) (now (states .entry)) ⌝ }
+pub fn vacuum_at(pool: &mut [u8], st: State, ids: &[u64], states: &[u8], bound: u64) -> CountedAt
+    ensures { λ r. ⌜ ended r (now (pool .exit)) ≡ vacuumRun (now (pool .entry)) st (statuses (now (ids .entry)) (now (states .entry))) bound ⌝ }
 {
     if !page::pool::pool_is_good(pool, st) {
-        return refused(1);
+        return refused(BAD_POOL);
     }
     if !mvcc::lists::good_statuses(ids, states) {
-        return refused(4);
+        return refused(BAD_STATUSES);
     }
     match tree::descend(pool, st.used, st.root, Route::First) {
         Descent::Bad(f) => bad_tree(f),
         Descent::Leaf(p) => match vacuum::judge_along(pool, st.used, p) {
             ChainJudged::Bad(f) => bad_tree(f),
-            ChainJudged::Ok => Cleared::Done(vacuum::vacuum_along(
+            ChainJudged::Ok => CountedAt::Done(vacuum::vacuum_along(
                 pool,
+                st.used,
+                p,
                 ids,
                 states,
                 bound,
-                st.used,
-                p,
             )),
         },
     }
@@ -116,11 +96,11 @@ pub fn vacuum_at(pool: &mut [u8], st: State, bound: u64, ids: &[u64], states: &[
 pub fn vacuum_deleted_versions(
     pool: &mut [u8],
     st: State,
-    bound: u64,
     ids: &[u64],
     states: &[u8],
-) -> Dropped
-    ensures { λ r. ⌜ ended (ofDropped r) (now (pool .exit)) ≡ vacuumCall (now (pool .entry)) st bound (now (ids .entry)) (now (states .entry)) ⌝ }
+    bound: u64,
+) -> Counted
+    ensures { λ r. ⌜ ended (ofCounted r) (now (pool .exit)) ≡ vacuumCall (now (pool .entry)) st (statuses (now (ids .entry)) (now (states .entry))) bound ⌝ }
 {
-    dropped_of(vacuum_at(pool, st, bound, ids, states))
+    call_answers::counted_of(vacuum_at(pool, st, ids, states, bound))
 }

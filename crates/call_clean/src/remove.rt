@@ -3,7 +3,6 @@
 ghost use mathlib.Core.Path.{_≡_};
 ghost use Prim.Native.Nat.{_+_, _*_, _≤_, _<_};
 ghost use lib.ListN.{length};
-ghost use Rattle.page.specs.Page.{page};
 ghost use Rattle.page.specs.Header.{cellCount};
 ghost use Rattle.call_clean.specs.Remove.{countAlong, withoutRun, removedAlong};
 use leaf::find::LeafRun;
@@ -17,16 +16,16 @@ pub enum ChainCount {
     Bad(Fault),
 }
 
-pub fn count_along(pool: &[u8], used: u32, key: u32, first: u32) -> ChainCount
+pub fn count_along(pool: &[u8], used: u32, first: u32, key: u32) -> ChainCount
     requires { ⌜ (used * 4096 ≤ length (now pool)) × (used ≤ 65536) ⌝ }
-    ensures { λ r. ⌜ r ≡ countAlong used key first (now (pool .entry)) ⌝ }
+    ensures { λ r. ⌜ r ≡ countAlong (now (pool .entry)) used first key ⌝ }
 {
     let mut p = first;
     let mut count: usize = 0;
     let mut left = used;
     while 0 < left {
         if used <= p {
-            return ChainCount::Bad(leaf::structural_fault(p));
+            return ChainCount::Bad(row::structural_fault(p));
         }
         let pg = page::pool::page_of(pool, p);
         match leaf::find::run_in_leaf(pg, p, key) {
@@ -45,7 +44,7 @@ pub fn count_along(pool: &[u8], used: u32, key: u32, first: u32) -> ChainCount
         }
         left -= 1;
     }
-    ChainCount::Bad(leaf::structural_fault(p))
+    ChainCount::Bad(row::structural_fault(p))
 }
 
 // The cells of the run, of cells that end at e; a page without them is not written.
@@ -59,9 +58,9 @@ fn take_run(pg: &mut [u8], run: Run, e: usize)
     }
 }
 
-pub fn remove_along(pool: &mut [u8], used: u32, key: u32, first: u32)
+pub fn remove_along(pool: &mut [u8], used: u32, first: u32, key: u32)
     requires { ⌜ used * 4096 ≤ length (now pool) ⌝ }
-    ensures { λ _. ⌜ now (pool .exit) ≡ removedAlong used used key first (now (pool .entry)) ⌝ }
+    ensures { λ _. ⌜ now (pool .exit) ≡ removedAlong (now (pool .entry)) used first key used ⌝ }
 {
     let mut p = first;
     let mut left = used;

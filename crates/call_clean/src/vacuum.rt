@@ -3,8 +3,9 @@
 ghost use mathlib.Core.Path.{_≡_};
 ghost use Prim.Native.Nat.{_*_, _≤_};
 ghost use lib.ListN.{length};
-ghost use Rattle.mvcc.specs.Lists.{lookup, Judged as StatusesJudged};
-ghost use Rattle.call_read.specs.Answer.{ended};
+ghost use Rattle.mvcc.specs.Snapshot.{lookup, statuses};
+ghost use Rattle.mvcc.specs.Steps.Snapshot.{StatusesJudged};
+ghost use Rattle.call_answers.specs.Answer.{ended};
 ghost use Rattle.call_clean.specs.Vacuum.{judgedAlong, vacuumedAlong};
 use leaf::Judged;
 use page::PAGE_SIZE;
@@ -18,13 +19,13 @@ pub enum ChainJudged {
 
 pub fn judge_along(pool: &[u8], used: u32, first: u32) -> ChainJudged
     requires { ⌜ used * 4096 ≤ length (now pool) ⌝ }
-    ensures { λ r. ⌜ r ≡ judgedAlong used first (now (pool .entry)) ⌝ }
+    ensures { λ r. ⌜ r ≡ judgedAlong (now (pool .entry)) used first ⌝ }
 {
     let mut p = first;
     let mut left = used;
     while 0 < left {
         if used <= p {
-            return ChainJudged::Bad(leaf::structural_fault(p));
+            return ChainJudged::Bad(row::structural_fault(p));
         }
         let pg = page::pool::page_of(pool, p);
         match leaf::judge_leaf(pg, p) {
@@ -39,20 +40,20 @@ pub fn judge_along(pool: &[u8], used: u32, first: u32) -> ChainJudged
         }
         left -= 1;
     }
-    ChainJudged::Bad(leaf::structural_fault(p))
+    ChainJudged::Bad(row::structural_fault(p))
 }
 
 // How many versions are dropped.
 pub fn vacuum_along(
     pool: &mut [u8],
+    used: u32,
+    first: u32,
     ids: &[u64],
     states: &[u8],
     bound: u64,
-    used: u32,
-    first: u32,
 ) -> usize
-    requires { ⌜ (used * 4096 ≤ length (now pool)) × (used ≤ 65536) × StatusesJudged (now ids) (now states) ⌝ }
-    ensures { λ r. ⌜ ended r (now (pool .exit)) ≡ vacuumedAlong (lookup (now (ids .entry)) (now (states .entry))) bound used used 0 first (now (pool .entry)) ⌝ }
+    requires { ⌜ (used * 4096 ≤ length (now pool)) × (used ≤ 65536) × StatusesJudged (statuses (now ids) (now states)) ⌝ }
+    ensures { λ r. ⌜ ended r (now (pool .exit)) ≡ vacuumedAlong (now (pool .entry)) used first (lookup (statuses (now (ids .entry)) (now (states .entry)))) bound used 0 ⌝ }
 {
     let mut p = first;
     let mut dropped: usize = 0;

@@ -13,19 +13,19 @@ use Rattle.page.specs.declared.pool.State.{State}
 use Rattle.row.specs.Write.{cellSize, cellBytes}
 use Rattle.row.specs.declared.Stamp.{Stamp}
 use Rattle.row.specs.declared.Pointer.{Pointer}
-use Rattle.mvcc.specs.Lists.{goodStatuses}
+use Rattle.mvcc.specs.Snapshot.{goodStatuses, creatorOf, Statuses}
 use Rattle.mvcc.specs.declared.Current.{Current}
-use Rattle.tree_room.specs.Room.{noFault}
+use Rattle.row.specs.Fault.{noFault}
 use Rattle.tree_grow.specs.Grow.{grown}
 use Rattle.tree_insert.specs.Insert.{insertedAt}
-use Rattle.tree_insert.specs.Ready.{notReady, versionAt, creatorOf, newAt}
+use Rattle.tree_insert.specs.Ready.{notReady, versionAt, newAt}
 use Rattle.tree_insert.specs.declared.ready.Ready.{Ready}
+use Rattle.call_answers.specs.Answer.{ended, Ended, Outcome, hideStateEnd, hideState}
+use Rattle.call_insert.specs.Answer.{changedTo}
+use Rattle.call_insert.specs.Insert.{versionReady, insertVersionRun, insertVersionCall, insertReady, insertRun, insertCall}
+use Rattle.call_answers.specs.declared.Changed.{Changed}
 use Rattle.tree_insert.proofs.Storing.{cell-size}
 use Rattle.tree_insert.proofs.Answering.{Storable, version-ok, new-ok}
-use Rattle.call_read.specs.Answer.{Outcome, Ended, ended}
-use Rattle.call_insert.specs.Answer.{changedTo, hideFault, hideEnd}
-use Rattle.call_insert.specs.Insert.{versionReady, insertVersionRun, insertVersionCall, insertReady, insertRun, insertCall}
-use Rattle.call_insert.specs.declared.Changed.{Changed}
 
 -- what a judgement that is ok says, of data of len bytes and a cell of m
 pub record Stores (s : List ℕ) (st : State) (key creator m len : ℕ) (r : Ready) : Type 0 where
@@ -34,8 +34,8 @@ pub record Stores (s : List ℕ) (st : State) (key creator m len : ℕ) (r : Rea
   pub storable : Storable s st key creator m r
 
 -- what a call gives, without its fault
-pub hidden-end : {q : Changed} {o : Outcome State} {t : List ℕ} {e : Ended Changed} → ended q t ≡ e → o ≡ hideFault q → ended o t ≡ hideEnd e
-hidden-end h u = rw u (ap hideEnd h)
+pub hidden-end : {q : Changed} {o : Outcome State} {t : List ℕ} {e : Ended Changed} → ended q t ≡ e → o ≡ hideState q → ended o t ≡ hideStateEnd e
+hidden-end h u = rw u (ap hideStateEnd h)
 
 -- a cell is at most 33 bytes longer than its data
 pub size-small : (stamp : Stamp) (pointer : Pointer) (len : ℕ) {m : ℕ} → len ≤ 4051 → m ≡ cellSize stamp pointer len → m ≤ 4084
@@ -87,67 +87,67 @@ module _ (s : List ℕ) (st : State) (key creator : ℕ) (stamp : Stamp) (pointe
   version-refused h = rw (← is, h)
 
 pub version-call : (s : List ℕ) (st : State) (creator : ℕ) (stamp : Stamp) (pointer : Pointer) (body : List ℕ) {key rank : ℕ} {q : Changed} {o : Outcome State} {t : List ℕ} → rank ≡ key
-    → ended q t ≡ insertVersionRun s st rank creator stamp pointer body → o ≡ hideFault q → ended o t ≡ insertVersionCall s st key creator stamp pointer body
+    → ended q t ≡ insertVersionRun s st rank creator stamp pointer body → o ≡ hideState q → ended o t ≡ insertVersionCall s st key creator stamp pointer body
 unfolding insertVersionCall
 version-call s st creator stamp pointer body k e u = rw (← k) (hidden-end e u)
 
 -- ---- insert
 
-module _ (s : List ℕ) (st : State) (key : ℕ) (cur : Current) (ids states : List ℕ) (len : ℕ) where
-  pub insert-pool : {a : Bool} {r : Ready} → a ≡ goodPool s st → a ≡ false → r ≡ notReady 1 noFault → r ≡ insertReady s st key cur ids states len
+module _ (s : List ℕ) (st : State) (key : ℕ) (cur : Current) (ss : Statuses) (len : ℕ) where
+  pub insert-pool : {a : Bool} {r : Ready} → a ≡ goodPool s st → a ≡ false → r ≡ notReady 1 noFault → r ≡ insertReady s st key cur ss len
   unfolding insertReady
   insert-pool e t u = u ∙ rw (sym e ∙ t)
 
   module _ {a : Bool} (pool : a ≡ goodPool s st) (good : a ≡ true) where
-    pub insert-statuses : {b : Bool} {r : Ready} → b ≡ goodStatuses ids states → b ≡ false → r ≡ notReady 4 noFault → r ≡ insertReady s st key cur ids states len
+    pub insert-statuses : {b : Bool} {r : Ready} → b ≡ goodStatuses ss → b ≡ false → r ≡ notReady 4 noFault → r ≡ insertReady s st key cur ss len
     unfolding insertReady
     insert-statuses e t u = u ∙ rw (sym pool ∙ good, sym e ∙ t)
 
-    module _ {b : Bool} (list : b ≡ goodStatuses ids states) (list-good : b ≡ true) {r : Ready} where
-      pub insert-long : 4051 < len → r ≡ notReady 5 noFault → r ≡ insertReady s st key cur ids states len
+    module _ {b : Bool} (list : b ≡ goodStatuses ss) (list-good : b ≡ true) {r : Ready} where
+      pub insert-long : 4051 < len → r ≡ notReady 5 noFault → r ≡ insertReady s st key cur ss len
       unfolding insertReady
       insert-long h u = u ∙ rw (sym pool ∙ good, sym list ∙ list-good, lt-leb len 4051 h)
 
-      pub insert-goes : {m : ℕ} → len ≤ 4051 → m ≡ cellSize Stamp.Absent Pointer.Absent len → r ≡ newAt s st key cur ids states m
-          → r ≡ insertReady s st key cur ids states len
+      pub insert-goes : {m : ℕ} → len ≤ 4051 → m ≡ cellSize Stamp.Absent Pointer.Absent len → r ≡ newAt s st key cur ss m
+          → r ≡ insertReady s st key cur ss len
       unfolding insertReady
       insert-goes h e u = u ∙ rw (sym pool ∙ good, sym list ∙ list-good, le-leb len 4051 h, e)
 
-  pub insert-stores : {r : Ready} → r ≡ insertReady s st key cur ids states len → r .ok ≡ true
+  pub insert-stores : {r : Ready} → r ≡ insertReady s st key cur ss len → r .ok ≡ true
       → Stores s st key (creatorOf cur) (cellSize Stamp.Absent Pointer.Absent len) len r
   unfolding insertReady
   insert-stores e h = rw e (by-pool (cellSize Stamp.Absent Pointer.Absent len) (goodPool s st) refl (rw e at h))
     where
-      by-data : (m : ℕ) → goodPool s st ≡ true → (b : Bool) → leb len 4051 ≡ b → pick b (newAt s st key cur ids states m) (notReady 5 noFault) .ok ≡ true
-          → Stores s st key (creatorOf cur) m len (pick b (newAt s st key cur ids states m) (notReady 5 noFault))
-      by-data m g true q u = record { good = g; short = leb-true len 4051 q; storable = new-ok s st key cur ids states m u }
+      by-data : (m : ℕ) → goodPool s st ≡ true → (b : Bool) → leb len 4051 ≡ b → pick b (newAt s st key cur ss m) (notReady 5 noFault) .ok ≡ true
+          → Stores s st key (creatorOf cur) m len (pick b (newAt s st key cur ss m) (notReady 5 noFault))
+      by-data m g true q u = record { good = g; short = leb-true len 4051 q; storable = new-ok s st key cur ss m u }
       by-data m g false q u = absurd (let z : _≡_ {A = ℕ} 0 1 = cc in omega arith)
 
-      by-list : (m : ℕ) → goodPool s st ≡ true → (b : Bool) → pick b (pick (leb len 4051) (newAt s st key cur ids states m) (notReady 5 noFault)) (notReady 4 noFault) .ok ≡ true
-          → Stores s st key (creatorOf cur) m len (pick b (pick (leb len 4051) (newAt s st key cur ids states m) (notReady 5 noFault)) (notReady 4 noFault))
+      by-list : (m : ℕ) → goodPool s st ≡ true → (b : Bool) → pick b (pick (leb len 4051) (newAt s st key cur ss m) (notReady 5 noFault)) (notReady 4 noFault) .ok ≡ true
+          → Stores s st key (creatorOf cur) m len (pick b (pick (leb len 4051) (newAt s st key cur ss m) (notReady 5 noFault)) (notReady 4 noFault))
       by-list m g true u = by-data m g (leb len 4051) refl u
       by-list m g false u = absurd (let z : _≡_ {A = ℕ} 0 1 = cc in omega arith)
 
       by-pool : (m : ℕ) (b : Bool) → goodPool s st ≡ b
-          → pick b (pick (goodStatuses ids states) (pick (leb len 4051) (newAt s st key cur ids states m) (notReady 5 noFault)) (notReady 4 noFault)) (notReady 1 noFault) .ok ≡ true
+          → pick b (pick (goodStatuses ss) (pick (leb len 4051) (newAt s st key cur ss m) (notReady 5 noFault)) (notReady 4 noFault)) (notReady 1 noFault) .ok ≡ true
           → Stores s st key (creatorOf cur) m len
-          (pick b (pick (goodStatuses ids states) (pick (leb len 4051) (newAt s st key cur ids states m) (notReady 5 noFault)) (notReady 4 noFault)) (notReady 1 noFault))
-      by-pool m true q u = by-list m q (goodStatuses ids states) u
+          (pick b (pick (goodStatuses ss) (pick (leb len 4051) (newAt s st key cur ss m) (notReady 5 noFault)) (notReady 4 noFault)) (notReady 1 noFault))
+      by-pool m true q u = by-list m q (goodStatuses ss) u
       by-pool m false q u = absurd (let z : _≡_ {A = ℕ} 0 1 = cc in omega arith)
 
-module _ (s : List ℕ) (st : State) (key : ℕ) (body : List ℕ) (cur : Current) (ids states : List ℕ) {told : Ready}
-    (is : told ≡ insertReady s st key cur ids states (length body)) where
+module _ (s : List ℕ) (st : State) (key : ℕ) (body : List ℕ) (cur : Current) (ss : Statuses) {told : Ready}
+    (is : told ≡ insertReady s st key cur ss (length body)) where
   pub insert-done : {t : List ℕ} {r : State} {who : ℕ} → told .ok ≡ true → who ≡ creatorOf cur
       → grown t r ≡ insertedAt (told .spot) (told .plan) (cellBytes key who Stamp.Absent Pointer.Absent body) (grown s st)
-      → ended (Changed.Done r) t ≡ insertRun s st key body cur ids states
+      → ended (Changed.Done r) t ≡ insertRun s st key cur ss body
   unfolding insertRun
   insert-done h k e = rw (← is, h, ← k) (ap changedTo e)
 
-  pub insert-refused : told .ok ≡ false → ended (Changed.Refused (record { number = told .number; fault = told .fault })) s ≡ insertRun s st key body cur ids states
+  pub insert-refused : told .ok ≡ false → ended (Changed.Refused (record { number = told .number; fault = told .fault })) s ≡ insertRun s st key cur ss body
   unfolding insertRun
   insert-refused h = rw (← is, h)
 
-pub insert-call : (s : List ℕ) (st : State) (body : List ℕ) (cur : Current) (ids states : List ℕ) {key rank : ℕ} {q : Changed} {o : Outcome State} {t : List ℕ} → rank ≡ key
-    → ended q t ≡ insertRun s st rank body cur ids states → o ≡ hideFault q → ended o t ≡ insertCall s st key body cur ids states
+pub insert-call : (s : List ℕ) (st : State) (body : List ℕ) (cur : Current) (ss : Statuses) {key rank : ℕ} {q : Changed} {o : Outcome State} {t : List ℕ} → rank ≡ key
+    → ended q t ≡ insertRun s st rank cur ss body → o ≡ hideState q → ended o t ≡ insertCall s st key cur ss body
 unfolding insertCall
-insert-call s st body cur ids states k e u = rw (← k) (hidden-end e u)
+insert-call s st body cur ss k e u = rw (← k) (hidden-end e u)

@@ -4,29 +4,31 @@ use mathlib.Core.List.{List}
 use Prim.Native.Nat.{ℕ}
 use lib.Dec.{leb}
 use lib.ListN.{length}
-use Rattle.store.specs.Pick.{pick}
 use Rattle.page.specs.Pool.{goodPool}
 use Rattle.page.specs.declared.pool.State.{State}
-use Rattle.row.specs.Write.{cellSize, cellBytes}
+use Rattle.row.specs.Write.{cellSize, cellBytes, maxData}
 use Rattle.row.specs.declared.Stamp.{Stamp}
 use Rattle.row.specs.declared.Pointer.{Pointer}
-use Rattle.mvcc.specs.Lists.{goodStatuses}
+use Rattle.mvcc.specs.Snapshot.{goodStatuses, creatorOf, Statuses}
 use Rattle.mvcc.specs.declared.Current.{Current}
 use Rattle.tree_grow.specs.Grow.{grown}
 use Rattle.tree_insert.specs.Insert.{insertedAt}
-use Rattle.tree_room.specs.Room.{noFault}
-use Rattle.tree_insert.specs.Ready.{notReady, onReady, versionAt, creatorOf, newAt}
+use Rattle.row.specs.Fault.{noFault}
+use Rattle.tree_insert.specs.Ready.{notReady, onReady, versionAt, newAt}
 use Rattle.tree_insert.specs.declared.ready.Ready.{Ready}
-use Rattle.call_read.specs.Answer.{Outcome, Ended}
-use Rattle.call_insert.specs.Answer.{changedTo, stays, hideEnd}
-use Rattle.call_insert.specs.declared.Changed.{Changed}
+use Rattle.call_answers.specs.Answer.{Ended, Outcome, hideStateEnd}
+use Rattle.call_insert.specs.Answer.{stays, changedTo}
+use Rattle.call_answers.specs.declared.Changed.{Changed}
+use Rattle.call_answers.specs.Names.{BadData, BadPool, BadStatuses, unless}
 
 -- ---- insert version
 
 -- 1, 5, 2, 9, 11, 10
 unfoldable pub versionReady : List ℕ → State → (key creator : ℕ) → Stamp → Pointer → (len : ℕ) → Ready
 versionReady s st key creator stamp pointer len =
-    pick (goodPool s st) (pick (leb len 4051) (versionAt s st key creator (cellSize stamp pointer len)) (notReady 5 noFault)) (notReady 1 noFault)
+    unless (goodPool s st) (notReady BadPool noFault)
+    (unless (leb len maxData) (notReady BadData noFault)
+    (versionAt s st key creator (cellSize stamp pointer len)))
 
 -- "A new version goes after equals of its key and creator"
 unfoldable pub insertVersionRun : List ℕ → State → (key creator : ℕ) → Stamp → Pointer → (body : List ℕ) → Ended Changed
@@ -35,22 +37,23 @@ insertVersionRun s st key creator stamp pointer body =
     (versionReady s st key creator stamp pointer (length body))
 
 unfoldable pub insertVersionCall : List ℕ → State → (key creator : ℕ) → Stamp → Pointer → (body : List ℕ) → Ended (Outcome State)
-insertVersionCall s st key creator stamp pointer body = hideEnd (insertVersionRun s st key creator stamp pointer body)
+insertVersionCall s st key creator stamp pointer body = hideStateEnd (insertVersionRun s st key creator stamp pointer body)
 
 -- ---- insert
 
 -- 1, 4, 5, 2, 6, 9, 11, 10
-unfoldable pub insertReady : List ℕ → State → (key : ℕ) → Current → (ids states : List ℕ) → (len : ℕ) → Ready
-insertReady s st key cur ids states len =
-    pick (goodPool s st)
-    (pick (goodStatuses ids states) (pick (leb len 4051) (newAt s st key cur ids states (cellSize Stamp.Absent Pointer.Absent len)) (notReady 5 noFault)) (notReady 4 noFault))
-    (notReady 1 noFault)
+unfoldable pub insertReady : List ℕ → State → (key : ℕ) → Current → Statuses → (len : ℕ) → Ready
+insertReady s st key cur ss len =
+    unless (goodPool s st) (notReady BadPool noFault)
+    (unless (goodStatuses ss) (notReady BadStatuses noFault)
+    (unless (leb len maxData) (notReady BadData noFault)
+    (newAt s st key cur ss (cellSize Stamp.Absent Pointer.Absent len))))
 
 -- the new version is live and points to none
-unfoldable pub insertRun : List ℕ → State → (key : ℕ) → (body : List ℕ) → Current → (ids states : List ℕ) → Ended Changed
-insertRun s st key body cur ids states =
+unfoldable pub insertRun : List ℕ → State → (key : ℕ) → Current → Statuses → (body : List ℕ) → Ended Changed
+insertRun s st key cur ss body =
     onReady (λ x plan. changedTo (insertedAt x plan (cellBytes key (creatorOf cur) Stamp.Absent Pointer.Absent body) (grown s st))) (stays s)
-    (insertReady s st key cur ids states (length body))
+    (insertReady s st key cur ss (length body))
 
-unfoldable pub insertCall : List ℕ → State → (key : ℕ) → (body : List ℕ) → Current → (ids states : List ℕ) → Ended (Outcome State)
-insertCall s st key body cur ids states = hideEnd (insertRun s st key body cur ids states)
+unfoldable pub insertCall : List ℕ → State → (key : ℕ) → Current → Statuses → (body : List ℕ) → Ended (Outcome State)
+insertCall s st key cur ss body = hideStateEnd (insertRun s st key cur ss body)

@@ -2,36 +2,21 @@
 // unchanged pool, and only then stores. A refused call changes nothing. No function here asks anything of its caller.
 ghost use mathlib.Core.Path.{_≡_};
 ghost use Rattle.page.specs.Key.{rankOf};
-ghost use Rattle.call_read.specs.Answer.{ended};
-ghost use Rattle.call_insert.specs.Answer.{ofStated, hideFault};
+ghost use Rattle.call_answers.specs.Answer.{ended, ofStated};
 ghost use Rattle.call_insert.specs.Insert.{versionReady, insertVersionRun, insertVersionCall, insertReady, insertRun, insertCall};
-use call_read::Refusal;
+ghost use Rattle.mvcc.specs.Snapshot.{statuses};
+use call_answers::BAD_DATA;
+use call_answers::BAD_POOL;
+use call_answers::BAD_STATUSES;
+use call_answers::Changed;
+use call_answers::Refusal;
+use call_answers::Stated;
 use mvcc::Current;
 use page::pool::State;
 use row::Pointer;
 use row::Stamp;
 use tree_insert::ready;
 use tree_insert::ready::Ready;
-
-// The new state, or the refusal with the fault behind a BadTree.
-pub enum Changed {
-    Done(State),
-    Refused(Refusal),
-}
-
-pub enum Stated {
-    Done(State),
-    Refused(u8),
-}
-
-pub fn stated_of(r: Changed) -> Stated
-    ensures { λ q. ⌜ ofStated q ≡ hideFault r ⌝ }
-{
-    match r {
-        Changed::Done(st) => Stated::Done(st),
-        Changed::Refused(f) => Stated::Refused(f.number),
-    }
-}
 
 // What insert version would do; it can be asked without storing.
 pub fn version_ready(
@@ -47,12 +32,12 @@ pub fn version_ready(
 {
     if page::pool::pool_is_good(pool, st) {
         if row::MAX_DATA < len {
-            return ready::refused(5);
+            return ready::refused(BAD_DATA);
         }
         let m = row::write::cell_size(stamp, pointer, len);
         return ready::version_at(pool, st, key, creator, m);
     }
-    ready::refused(1)
+    ready::refused(BAD_POOL)
 }
 
 // Insert version by rank, with the fault behind a BadTree.
@@ -102,7 +87,7 @@ pub fn insert_version(
     ensures { λ r. ⌜ ended (ofStated r) (now (pool .exit)) ≡ insertVersionCall (now (pool .entry)) st (rankOf key) creator stamp pointer (now (body .entry)) ⌝ }
 {
     let rank = page::key::rank_of(key);
-    stated_of(insert_version_at(pool, st, rank, creator, stamp, pointer, body))
+    call_answers::stated_of(insert_version_at(pool, st, rank, creator, stamp, pointer, body))
 }
 
 // What insert would do; it can be asked without storing.
@@ -115,19 +100,19 @@ pub fn insert_ready(
     states: &[u8],
     len: usize,
 ) -> Ready
-    ensures { λ r. ⌜ r ≡ insertReady (now (pool .entry)) st key cur (now (ids .entry)) (now (states .entry)) len ⌝ }
+    ensures { λ r. ⌜ r ≡ insertReady (now (pool .entry)) st key cur (statuses (now (ids .entry)) (now (states .entry))) len ⌝ }
 {
     if page::pool::pool_is_good(pool, st) {
         if mvcc::lists::good_statuses(ids, states) {
             if row::MAX_DATA < len {
-                return ready::refused(5);
+                return ready::refused(BAD_DATA);
             }
             let m = row::write::cell_size(Stamp::Absent, Pointer::Absent, len);
             return ready::new_at(pool, st, key, cur, ids, states, m);
         }
-        return ready::refused(4);
+        return ready::refused(BAD_STATUSES);
     }
-    ready::refused(1)
+    ready::refused(BAD_POOL)
 }
 
 // Insert by rank, with the fault behind a BadTree.
@@ -135,12 +120,12 @@ pub fn insert_at(
     pool: &mut [u8],
     st: State,
     key: u32,
-    body: &[u8],
     cur: Current,
     ids: &[u64],
     states: &[u8],
+    body: &[u8],
 ) -> Changed
-    ensures { λ r. ⌜ ended r (now (pool .exit)) ≡ insertRun (now (pool .entry)) st key (now (body .entry)) cur (now (ids .entry)) (now (states .entry)) ⌝ }
+    ensures { λ r. ⌜ ended r (now (pool .exit)) ≡ insertRun (now (pool .entry)) st key cur (statuses (now (ids .entry)) (now (states .entry))) (now (body .entry)) ⌝ }
 {
     let told = insert_ready(pool, st, key, cur, ids, states, body.len());
     let x = told.spot;
@@ -153,7 +138,7 @@ pub fn insert_at(
             x,
             plan,
             key,
-            ready::creator_of(cur),
+            mvcc::creator_of(cur),
             Stamp::Absent,
             Pointer::Absent,
             body,
@@ -170,13 +155,13 @@ pub fn insert(
     pool: &mut [u8],
     st: State,
     key: i32,
-    body: &[u8],
     cur: Current,
     ids: &[u64],
     states: &[u8],
+    body: &[u8],
 ) -> Stated
-    ensures { λ r. ⌜ ended (ofStated r) (now (pool .exit)) ≡ insertCall (now (pool .entry)) st (rankOf key) (now (body .entry)) cur (now (ids .entry)) (now (states .entry)) ⌝ }
+    ensures { λ r. ⌜ ended (ofStated r) (now (pool .exit)) ≡ insertCall (now (pool .entry)) st (rankOf key) cur (statuses (now (ids .entry)) (now (states .entry))) (now (body .entry)) ⌝ }
 {
     let rank = page::key::rank_of(key);
-    stated_of(insert_at(pool, st, rank, body, cur, ids, states))
+    call_answers::stated_of(insert_at(pool, st, rank, cur, ids, states, body))
 }

@@ -10,15 +10,12 @@ use lib.Dec.{leb, eqb}
 use lib.ListN.{length, length-replicate}
 use Rattle.store.specs.Le.{leAt, putAt}
 use Rattle.store.specs.Part.{zeros}
-use Rattle.store.proofs.LeLaws.{length-putAt}
-use Rattle.store.proofs.PutLaws.{put-nil}
 use Rattle.page.specs.Page.{page, setPage}
 use Rattle.page.specs.Header.{nodeType, parentOf, cellCount, nextLeaf, withNodeType, withIsRoot}
 use Rattle.page.specs.Pool.{goodPool, nextPage, allocated, withFresh}
 use Rattle.page.specs.declared.pool.State.{State}
-use Rattle.page.proofs.PageLaws.{length-setPage, page-setPage}
-use Rattle.page.proofs.PoolLaws.{pool-is, pool-in-use}
-use Rattle.mvcc.specs.Lists.{lookup, rising, goodActive, goodStatuses}
+use Rattle.mvcc.specs.Snapshot.{lookup, goodStatuses, Snapshot, Statuses, goodSnapshot, snapshot, noStatuses}
+use Rattle.mvcc.specs.Lists.{rising, goodActive}
 use Rattle.mvcc.specs.declared.Current.{Current}
 use Rattle.leaf.specs.Cells.{cells, foldCells, judgeCells, judgeLeaf, hasLarger}
 use Rattle.leaf.specs.Find.{findLeaf, testLeaf}
@@ -28,30 +25,35 @@ use Rattle.leaf.specs.declared.find.Best.{Best}
 use Rattle.tree.specs.Create.{rooted, createdPool}
 use Rattle.tree.specs.Descend.{descendOf}
 use Rattle.tree.specs.Chain.{Seen, go, ok, along, lookBest, bestAlong, lookTest, testAlong}
-use Rattle.tree_check.specs.Check.{cellsWithin, soundLeaf, wellFormed, checkOf, isFirst}
+use Rattle.tree_check.specs.Check.{cellsWithin, soundLeaf, isWellFormed}
+use Rattle.tree_check.specs.Steps.Check.{checkOf, isFirst}
 use Rattle.tree.specs.Lookup.{bestInTree, testInTree}
 use Rattle.tree.specs.declared.Route.{Route}
 use Rattle.tree.specs.declared.Descent.{Descent}
 use Rattle.tree.specs.declared.ChainBest.{ChainBest}
 use Rattle.tree.specs.declared.ChainTest.{ChainTest}
-use Rattle.tree.proofs.Ways.{and-both, way-leaf, along-end}
-use Rattle.tree_check.proofs.Linking.{check-is-well}
 use Rattle.list_records.specs.Records.{records}
-use Rattle.list_records.specs.Listed.{written, fitted}
+use Rattle.list_records.specs.Listed.{fitted}
+use Rattle.call_answers.specs.Answer.{written, refused, done}
 use Rattle.list_records.specs.declared.Listing.{Listing}
-use Rattle.list_versions.specs.Gather.{ofKey, lookRows, rowsAlong}
+use Rattle.list_versions.specs.Gather.{rowsOfKey, lookRows, rowsAlong}
 use Rattle.list_versions.specs.Listed.{routeOf, listTree}
 use Rattle.list_versions.specs.declared.Which.{Which}
-use Rattle.list_visible.specs.Visible.{lookAll, chainRows, visibleRows, entered, newestEach, scanRows, scanTree}
-use Rattle.list_visible.proofs.Writing.{cells-none}
-use Rattle.call_read.specs.Answer.{done, refused}
-use Rattle.call_read.specs.Create.{hasPage, createAfter}
+use Rattle.list_visible.specs.Visible.{lookAll, chainRows, visibleRows, enteredRow, newestEach, scanRows, scanTree}
+use Rattle.call_read.specs.Create.{createCall, hasPage}
 use Rattle.call_read.specs.Find.{findVisibleRun, findVisibleCall, findCall}
 use Rattle.call_read.specs.Conflict.{conflictCall}
 use Rattle.call_read.specs.Check.{checkCall}
 use Rattle.call_read.specs.Listings.{listRun, versionsOfCall, allVersionsCall}
 use Rattle.call_read.specs.Scan.{scanRun, scanVisibleCall}
 use Rattle.call_read.specs.Facts.{EmptyTree, CreateIsEmpty, TieToFirst}
+use Rattle.store.proofs.LeLaws.{length-putAt}
+use Rattle.store.proofs.PutLaws.{put-nil}
+use Rattle.page.proofs.PageLaws.{length-setPage, page-setPage}
+use Rattle.page.proofs.PoolLaws.{pool-is, pool-in-use}
+use Rattle.tree.proofs.Ways.{and-both, way-leaf, along-end}
+use Rattle.tree_check.proofs.Linking.{check-is-well}
+use Rattle.list_visible.proofs.Writing.{cells-none}
 
 -- ---- the page
 
@@ -104,37 +106,37 @@ module _ {used root : ℕ} {s : List ℕ} (t : Alone used root s) where
   stays : {A : Type 0} (look : A → ℕ → List ℕ → Seen A) (a : A) → look a root (page root s) ≡ go a → along look used used a root s ≡ ok a
   stays look a e = sym (along-end look used a root s (t .in-use) refl used (omega (arith, t .in-use)) e refl (t .empty .next))
 
-  is-well : wellFormed used root s ≡ true
-  unfolding wellFormed checkOf soundLeaf cellsWithin foldCells
+  is-well : isWellFormed used root s ≡ true
+  unfolding isWellFormed checkOf soundLeaf cellsWithin foldCells
   is-well =
       let first : isFirst (checkOf 0 used s 0 root 0 4294967295 0) ≡ true =
       rw (lt-ltb root used (t .in-use), t .empty .parent, empty-judged (t .empty) root, empty-cells (t .empty), t .empty .next) in
       rw (sym (check-is-well 0 used root s) ∙ first)
 
-  module _ (st : ℕ → ℕ) (active : List ℕ) (xmax : ℕ) (cur : Current) where
-    best-none : (key : ℕ) → bestInTree st active xmax cur used root key s ≡ ChainBest.Ok Best.Nothing
+  module _ (sn : Snapshot) (st : ℕ → ℕ) where
+    best-none : (key : ℕ) → bestInTree s used root key sn st ≡ ChainBest.Ok Best.Nothing
     unfolding bestInTree bestAlong findLeaf foldCells hasLarger
     best-none key =
-        let here : lookBest st active xmax cur key Best.Nothing root (page root s) ≡ go Best.Nothing = rw (empty-judged (t .empty) root, empty-cells (t .empty)) in
-        rw (comes-to (Route.Search key), stays (lookBest st active xmax cur key) Best.Nothing here)
+        let here : lookBest key sn st Best.Nothing root (page root s) ≡ go Best.Nothing = rw (empty-judged (t .empty) root, empty-cells (t .empty)) in
+        rw (comes-to (Route.Search key), stays (lookBest key sn st) Best.Nothing here)
 
-    test-none : (claiming : Bool) (seen key : ℕ) → testInTree claiming st active xmax cur used root seen key s ≡ ChainTest.Ok false
+    test-none : (claiming : Bool) (seen key : ℕ) → testInTree s used root key sn st claiming seen ≡ ChainTest.Ok false
     unfolding testInTree testAlong testLeaf foldCells hasLarger
     test-none claiming seen key =
-        let here : lookTest claiming st active xmax cur seen key false root (page root s) ≡ go false = rw (empty-judged (t .empty) root, empty-cells (t .empty)) in
-        rw (comes-to (Route.Search key), stays (lookTest claiming st active xmax cur seen key) false here)
+        let here : lookTest key sn st claiming seen false root (page root s) ≡ go false = rw (empty-judged (t .empty) root, empty-cells (t .empty)) in
+        rw (comes-to (Route.Search key), stays (lookTest key sn st claiming seen) false here)
 
-  list-none : (w : Which) (out : List ℕ) → listTree w used root s out ≡ written (Listing.Done 0) out
-  unfolding listTree rowsAlong foldCells hasLarger ofKey
+  list-none : (w : Which) (out : List ℕ) → listTree s used root w out ≡ written (Listing.Done 0) out
+  unfolding listTree rowsAlong foldCells hasLarger rowsOfKey
   list-none w out = rw (comes-to (routeOf w), stays (lookRows w) [] (here w)) (none-fitted out)
     where
       here : (w : Which) → lookRows w [] root (page root s) ≡ go []
       here Which.All = rw (empty-judged (t .empty) root, empty-rows (t .empty))
       here (Which.Key key) = rw (empty-judged (t .empty) root, empty-cells (t .empty))
 
-  scan-none : (st : ℕ → ℕ) (active : List ℕ) (xmax : ℕ) (cur : Current) (out : List ℕ) → scanTree st active xmax cur used root s out ≡ written (Listing.Done 0) out
+  scan-none : (sn : Snapshot) (st : ℕ → ℕ) (out : List ℕ) → scanTree s used root sn st out ≡ written (Listing.Done 0) out
   unfolding scanTree chainRows scanRows visibleRows newestEach
-  scan-none st active xmax cur out =
+  scan-none sn st out =
       let here : lookAll [] root (page root s) ≡ go [] = rw (empty-judged (t .empty) root, empty-rows (t .empty)) in
       rw (comes-to Route.First, stays lookAll [] here) (none-fitted out)
 
@@ -145,18 +147,18 @@ module _ (s : List ℕ) (st : State) (good : goodPool s st ≡ true) (t : Alone 
   unfolding checkCall
   checked = rw (good, is-well t)
 
-  absent : (key xmax : ℕ) (active : List ℕ) (cur : Current) (ids states : List ℕ) → goodActive active ≡ true → goodStatuses ids states ≡ true
-      → findVisibleCall s st key xmax active cur ids states ≡ refused 8
+  absent : (key : ℕ) (sn : Snapshot) (ss : Statuses) → goodSnapshot sn ≡ true → goodStatuses ss ≡ true
+      → findVisibleCall s st key sn ss ≡ refused 8
   unfolding findVisibleCall findVisibleRun
-  absent key xmax active cur ids states a b = rw (good, a, b, best-none t (lookup ids states) active xmax cur key)
+  absent key sn ss a b = rw (good, a, b, best-none t sn (lookup ss) key)
 
-  plainly-absent : (key : ℕ) (cur : Current) (ids states : List ℕ) → goodStatuses ids states ≡ true → findCall s st key cur ids states ≡ refused 8
+  plainly-absent : (key : ℕ) (cur : Current) (ss : Statuses) → goodStatuses ss ≡ true → findCall s st key cur ss ≡ refused 8
   unfolding findCall goodActive rising
-  plainly-absent key cur ids states = absent key _ [] cur ids states refl
+  plainly-absent key cur ss = absent key (snapshot _ [] cur) ss refl
 
-  no-conflict : (key seen xmax : ℕ) (active : List ℕ) (cur : Current) → goodActive active ≡ true → conflictCall s st key seen xmax active cur ≡ done false
+  no-conflict : (key seen : ℕ) (sn : Snapshot) → goodSnapshot sn ≡ true → conflictCall s st key sn seen ≡ done false
   unfolding conflictCall
-  no-conflict key seen xmax active cur a = rw (good, a, test-none t (lookup [] []) active xmax cur false seen key)
+  no-conflict key seen sn a = rw (good, a, test-none t sn (lookup noStatuses) false seen key)
 
   none-of-key : (key : ℕ) (out : List ℕ) → versionsOfCall s st key out ≡ written (done 0) out
   unfolding versionsOfCall listRun
@@ -166,10 +168,10 @@ module _ (s : List ℕ) (st : State) (good : goodPool s st ≡ true) (t : Alone 
   unfolding allVersionsCall listRun
   none out = rw (good, list-none t Which.All out)
 
-  none-seen : (xmax : ℕ) (active : List ℕ) (cur : Current) (ids states out : List ℕ) → goodActive active ≡ true → goodStatuses ids states ≡ true
-      → scanVisibleCall s st xmax active cur ids states out ≡ written (done 0) out
+  none-seen : (sn : Snapshot) (ss : Statuses) (out : List ℕ) → goodSnapshot sn ≡ true → goodStatuses ss ≡ true
+      → scanVisibleCall s st sn ss out ≡ written (done 0) out
   unfolding scanVisibleCall scanRun
-  none-seen xmax active cur ids states out a b = rw (good, a, b, scan-none t (lookup ids states) active xmax cur out)
+  none-seen sn ss out a b = rw (good, a, b, scan-none t sn (lookup ss) out)
 
   pub empty-tree : EmptyTree s st
   empty-tree =
@@ -223,12 +225,12 @@ module _ (s : List ℕ) (st : State) (left : hasPage s st ≡ true) where
       ∙ rw created-length (le-leb (st .used + 1) (length s / 4096) more)
 
 pub create-is-empty : CreateIsEmpty
-unfolding createAfter
+unfolding createCall
 create-is-empty s st good left = rw (good, left) (empty-tree (createdPool s st) (rooted s st) (created-good s st left good) (created-alone s st left))
 
 -- ---- a tie
 
 pub tie-to-first : TieToFirst
-unfolding scanRows visibleRows newestEach entered
-tie-to-first st active xmax cur r x k c v w =
+unfolding scanRows visibleRows newestEach enteredRow
+tie-to-first sn st r x k c v w =
     rw (v, w, le-ltb (x .key) (r .key) (omega arith), eq-eqb (x .key) (r .key) (sym k), le-ltb (r .creator) (x .creator) (omega arith))

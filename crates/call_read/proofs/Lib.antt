@@ -1,5 +1,4 @@
 -- Laws of the reading calls.
-pub mod Answers
 pub mod Calls
 pub mod ListCalls
 pub mod ScanCalls

@@ -2,12 +2,12 @@
 use mathlib.Core.Bool.{Bool}
 use mathlib.Core.List.{List}
 use Prim.Native.Nat.{ℕ}
-use Rattle.store.specs.Pick.{pick}
 use Rattle.page.specs.Pool.{goodPool}
 use Rattle.page.specs.declared.pool.State.{State}
-use Rattle.tree_check.specs.Check.{wellFormed}
-use Rattle.call_read.specs.Answer.{Outcome, done, refused}
+use Rattle.tree_check.specs.Check.{isWellFormed}
+use Rattle.call_answers.specs.Answer.{refused, done, Outcome}
+use Rattle.call_answers.specs.Names.{BadPool, unless}
 
 -- 1
 unfoldable pub checkCall : List ℕ → State → Outcome Bool
-checkCall s st = pick (goodPool s st) (done (wellFormed (st .used) (st .root) s)) (refused 1)
+checkCall s st = unless (goodPool s st) (refused BadPool) (done (isWellFormed (st .used) (st .root) s))

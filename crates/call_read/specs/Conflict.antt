@@ -3,20 +3,21 @@
 use mathlib.Core.Bool.{Bool, false}
 use mathlib.Core.List.{List, []}
 use Prim.Native.Nat.{ℕ}
-use Rattle.store.specs.Pick.{pick}
 use Rattle.page.specs.Pool.{goodPool}
 use Rattle.page.specs.declared.pool.State.{State}
-use Rattle.mvcc.specs.Lists.{lookup, goodActive}
-use Rattle.mvcc.specs.declared.Current.{Current}
+use Rattle.mvcc.specs.Snapshot.{lookup, Snapshot, goodSnapshot, noStatuses}
 use Rattle.tree.specs.Lookup.{testInTree}
 use Rattle.tree.specs.declared.ChainTest.{ChainTest}
-use Rattle.call_read.specs.Answer.{Outcome, done, refused}
+use Rattle.call_answers.specs.Answer.{refused, done, Outcome}
+use Rattle.call_answers.specs.Names.{BadPool, BadSnapshot, BadTree, unless}
 
-abbrev pub toldTest : ChainTest → Outcome Bool
-toldTest (ChainTest.Ok b) = done b
-toldTest (ChainTest.Bad f) = refused 2
+abbrev pub testOutcome : ChainTest → Outcome Bool
+testOutcome (ChainTest.Ok b) = done b
+testOutcome (ChainTest.Bad f) = refused BadTree
 
 -- 1, 3, 2
-unfoldable pub conflictCall : List ℕ → State → (key seen : ℕ) → (xmax : ℕ) → List ℕ → Current → Outcome Bool
-conflictCall s state key seen xmax active cur =
-    pick (goodPool s state) (pick (goodActive active) (toldTest (testInTree false (lookup [] []) active xmax cur (state .used) (state .root) seen key s)) (refused 3)) (refused 1)
+unfoldable pub conflictCall : List ℕ → State → (key : ℕ) → Snapshot → (seen : ℕ) → Outcome Bool
+conflictCall s state key sn seen =
+    unless (goodPool s state) (refused BadPool)
+    (unless (goodSnapshot sn) (refused BadSnapshot)
+    (testOutcome (testInTree s (state .used) (state .root) key sn (lookup noStatuses) false seen)))

@@ -1,6 +1,4 @@
 -- What a reader of the contracts of `call_read` has to believe.
-pub mod Answer
-pub mod AnswerFacts
 pub mod Create
 pub mod Find
 pub mod Conflict

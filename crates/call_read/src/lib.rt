@@ -2,110 +2,64 @@
 // and answers by the table. No function here asks anything of its caller.
 ghost use mathlib.Core.Path.{_≡_};
 ghost use Rattle.page.specs.Key.{rankOf};
-ghost use Rattle.call_read.specs.Answer.{ofCreated, ofFound, ofTold, ofListed};
-ghost use Rattle.call_read.specs.Create.{createCall, createAfter};
-ghost use Rattle.call_read.specs.Find.{plain, lookedBest, findVisibleRun, findVisibleCall, findCall};
-ghost use Rattle.call_read.specs.Conflict.{toldTest, conflictCall};
+ghost use Rattle.call_answers.specs.Answer.{ofFound, ofYesNo, ofCounted, ofStated, written, ended};
+ghost use Rattle.call_read.specs.Create.{createCall};
+ghost use Rattle.call_read.specs.Find.{lookedBest, findVisibleRun, findVisibleCall, findCall};
+ghost use Rattle.call_read.specs.Conflict.{testOutcome, conflictCall};
 ghost use Rattle.call_read.specs.Check.{checkCall};
-ghost use Rattle.list_records.specs.Listed.{written};
-ghost use Rattle.call_read.specs.Listings.{listedAt, listRun, toldListed, versionsOfCall, allVersionsCall};
+ghost use Rattle.call_read.specs.Listings.{listedAt, listRun, versionsOfCall, allVersionsCall};
 ghost use Rattle.call_read.specs.Numbers.{numbersRun, pageNumbersCall};
 ghost use Rattle.call_read.specs.Scan.{scanRun, scanVisibleCall};
+ghost use Rattle.mvcc.specs.Snapshot.{snapshot, statuses};
+use call_answers::ABSENT;
+use call_answers::BAD_POOL;
+use call_answers::BAD_SNAPSHOT;
+use call_answers::BAD_STATUSES;
+use call_answers::BAD_TREE;
+use call_answers::Counted;
+use call_answers::CountedAt;
+use call_answers::Found;
+use call_answers::Looked;
+use call_answers::NO_PAGES;
+use call_answers::Refusal;
+use call_answers::SHORT;
+use call_answers::Stated;
+use call_answers::YesNo;
 use leaf::find::Best;
 use list_records::Listing;
 use list_versions::Which;
 use mvcc::Current;
 use page::pool::State;
-use row::Cell;
-use row::Fault;
-use row::Version;
 use tree::ChainBest;
 use tree::ChainTest;
 
-// A refusal's number, and for a BadTree what was met and where.
-pub struct Refusal {
-    pub number: u8,
-    pub fault: Fault,
-}
-
-// The version that a lookup finds, with its page; taken apart by `let else`.
-pub enum Looked {
-    At(u32, Cell),
-    Refused(Refusal),
-}
-
-pub enum Created {
-    Done(State),
-    Refused(u8),
-}
-
-pub enum Found {
-    Done(Version),
-    Refused(u8),
-}
-
-pub enum Told {
-    Done(bool),
-    Refused(u8),
-}
-
-// How long a listing is, with the fault behind a BadTree.
-pub enum ListedAt {
-    Done(usize),
-    Refused(Refusal),
-}
-
-pub enum Listed {
-    Done(usize),
-    Refused(u8),
-}
-
-pub fn create(pool: &mut [u8], st: State) -> Created
-    ensures { λ r. ⌜ ofCreated r ≡ createCall (now (pool .entry)) st ⌝ }
-    ensures { λ _. ⌜ now (pool .exit) ≡ createAfter (now (pool .entry)) st ⌝ }
+pub fn create(pool: &mut [u8], st: State) -> Stated
+    ensures { λ r. ⌜ ended (ofStated r) (now (pool .exit)) ≡ createCall (now (pool .entry)) st ⌝ }
 {
     if page::pool::pool_is_good(pool, st) {
         let n = pool.len() / page::PAGE_SIZE;
         if (st.used as usize) < n {
-            return Created::Done(tree::create::make_root(pool, st));
+            return Stated::Done(tree::create::make_root(pool, st));
         }
-        return Created::Refused(10);
+        return Stated::Refused(NO_PAGES);
     }
-    Created::Refused(1)
+    Stated::Refused(BAD_POOL)
 }
 
 fn looked_of(r: ChainBest) -> Looked
     ensures { λ q. ⌜ q ≡ lookedBest r ⌝ }
 {
-    let none = Fault {
-        kind: 0,
-        page: 0,
-        offset: 0,
-    };
     match r {
         ChainBest::Bad(f) => Looked::Refused(Refusal {
-            number: 2,
+            number: BAD_TREE,
             fault: f,
         }),
         ChainBest::Ok(best) => match best {
             Best::At(p, c) => Looked::At(p, c),
             Best::Nothing => Looked::Refused(Refusal {
-                number: 8,
-                fault: none,
+                number: ABSENT,
+                fault: row::NO_FAULT,
             }),
-        },
-    }
-}
-
-fn plain_refusal(number: u8) -> Refusal
-    ensures { λ r. ⌜ r ≡ plain number ⌝ }
-{
-    Refusal {
-        number,
-        fault: Fault {
-            kind: 0,
-            page: 0,
-            offset: 0,
         },
     }
 }
@@ -121,28 +75,28 @@ pub fn find_visible_at(
     ids: &[u64],
     states: &[u8],
 ) -> Looked
-    ensures { λ r. ⌜ r ≡ findVisibleRun (now (pool .entry)) st key xmax (now (active .entry)) cur (now (ids .entry)) (now (states .entry)) ⌝ }
+    ensures { λ r. ⌜ r ≡ findVisibleRun (now (pool .entry)) st key (snapshot xmax (now (active .entry)) cur) (statuses (now (ids .entry)) (now (states .entry))) ⌝ }
 {
     if page::pool::pool_is_good(pool, st) {
         if mvcc::lists::good_active(active) {
             if mvcc::lists::good_statuses(ids, states) {
                 return looked_of(tree::lookup::best_in_tree(
                     pool,
-                    ids,
-                    states,
-                    active,
-                    xmax,
-                    cur,
                     st.used,
                     st.root,
                     key,
+                    xmax,
+                    active,
+                    cur,
+                    ids,
+                    states,
                 ));
             }
-            return Looked::Refused(plain_refusal(4));
+            return Looked::Refused(call_answers::refuse(BAD_STATUSES));
         }
-        return Looked::Refused(plain_refusal(3));
+        return Looked::Refused(call_answers::refuse(BAD_SNAPSHOT));
     }
-    Looked::Refused(plain_refusal(1))
+    Looked::Refused(call_answers::refuse(BAD_POOL))
 }
 
 pub fn find_visible(
@@ -155,7 +109,7 @@ pub fn find_visible(
     ids: &[u64],
     states: &[u8],
 ) -> Found
-    ensures { λ r. ⌜ ofFound r ≡ findVisibleCall (now (pool .entry)) st (rankOf key) xmax (now (active .entry)) cur (now (ids .entry)) (now (states .entry)) ⌝ }
+    ensures { λ r. ⌜ ofFound r ≡ findVisibleCall (now (pool .entry)) st (rankOf key) (snapshot xmax (now (active .entry)) cur) (statuses (now (ids .entry)) (now (states .entry))) ⌝ }
 {
     let rank = page::key::rank_of(key);
     match find_visible_at(pool, st, rank, xmax, active, cur, ids, states) {
@@ -166,7 +120,7 @@ pub fn find_visible(
 
 // Plain lookup: the newest version that the caller's own transaction, if any, sees among all that are finished.
 pub fn find(pool: &[u8], st: State, key: i32, cur: Current, ids: &[u64], states: &[u8]) -> Found
-    ensures { λ r. ⌜ ofFound r ≡ findCall (now (pool .entry)) st (rankOf key) cur (now (ids .entry)) (now (states .entry)) ⌝ }
+    ensures { λ r. ⌜ ofFound r ≡ findCall (now (pool .entry)) st (rankOf key) cur (statuses (now (ids .entry)) (now (states .entry))) ⌝ }
 {
     find_visible(
         pool,
@@ -180,12 +134,12 @@ pub fn find(pool: &[u8], st: State, key: i32, cur: Current, ids: &[u64], states:
     )
 }
 
-fn told_of(r: ChainTest) -> Told
-    ensures { λ q. ⌜ ofTold q ≡ toldTest r ⌝ }
+fn told_of(r: ChainTest) -> YesNo
+    ensures { λ q. ⌜ ofYesNo q ≡ testOutcome r ⌝ }
 {
     match r {
-        ChainTest::Ok(b) => Told::Done(b),
-        ChainTest::Bad(_) => Told::Refused(2),
+        ChainTest::Ok(b) => YesNo::Done(b),
+        ChainTest::Bad(_) => YesNo::Refused(BAD_TREE),
     }
 }
 
@@ -193,104 +147,95 @@ pub fn has_write_conflict(
     pool: &[u8],
     st: State,
     key: i32,
-    seen: u64,
     xmax: u64,
     active: &[u64],
     cur: Current,
-) -> Told
-    ensures { λ r. ⌜ ofTold r ≡ conflictCall (now (pool .entry)) st (rankOf key) seen xmax (now (active .entry)) cur ⌝ }
+    seen: u64,
+) -> YesNo
+    ensures { λ r. ⌜ ofYesNo r ≡ conflictCall (now (pool .entry)) st (rankOf key) (snapshot xmax (now (active .entry)) cur) seen ⌝ }
 {
     let rank = page::key::rank_of(key);
     if page::pool::pool_is_good(pool, st) {
         if mvcc::lists::good_active(active) {
             return told_of(tree::lookup::test_in_tree(
                 pool,
-                false,
-                &active[0..0],
-                &pool[0..0],
-                active,
-                xmax,
-                cur,
                 st.used,
                 st.root,
-                seen,
                 rank,
+                xmax,
+                active,
+                cur,
+                &active[0..0],
+                &pool[0..0],
+                false,
+                seen,
             ));
         }
-        return Told::Refused(3);
+        return YesNo::Refused(BAD_SNAPSHOT);
     }
-    Told::Refused(1)
+    YesNo::Refused(BAD_POOL)
 }
 
 // Whether the tree is well-formed; it never says BadTree.
-pub fn check(pool: &[u8], st: State) -> Told
-    ensures { λ r. ⌜ ofTold r ≡ checkCall (now (pool .entry)) st ⌝ }
+pub fn check(pool: &[u8], st: State) -> YesNo
+    ensures { λ r. ⌜ ofYesNo r ≡ checkCall (now (pool .entry)) st ⌝ }
 {
     if page::pool::pool_is_good(pool, st) {
-        return Told::Done(tree_check::check_tree(pool, st.used, st.root));
+        return YesNo::Done(tree_check::check_tree(pool, st.used, st.root));
     }
-    Told::Refused(1)
+    YesNo::Refused(BAD_POOL)
 }
 
-fn listed_at(r: Listing) -> ListedAt
+fn listed_at(r: Listing) -> CountedAt
     ensures { λ q. ⌜ q ≡ listedAt r ⌝ }
 {
     match r {
-        Listing::Done(n) => ListedAt::Done(n),
-        Listing::Short => ListedAt::Refused(plain_refusal(12)),
-        Listing::Bad(f) => ListedAt::Refused(Refusal {
-            number: 2,
+        Listing::Done(n) => CountedAt::Done(n),
+        Listing::Short => CountedAt::Refused(call_answers::refuse(SHORT)),
+        Listing::Bad(f) => CountedAt::Refused(Refusal {
+            number: BAD_TREE,
             fault: f,
         }),
     }
 }
 
 // The versions of a key by rank, or all, with the fault behind a BadTree.
-pub fn list_at(pool: &[u8], st: State, which: Which, out: &mut [u8]) -> ListedAt
-    ensures { λ r. ⌜ written r (now (out .exit)) ≡ listRun which (now (pool .entry)) st (now (out .entry)) ⌝ }
+pub fn list_at(pool: &[u8], st: State, which: Which, out: &mut [u8]) -> CountedAt
+    ensures { λ r. ⌜ written r (now (out .exit)) ≡ listRun (now (pool .entry)) st which (now (out .entry)) ⌝ }
 {
     if page::pool::pool_is_good(pool, st) {
         return listed_at(list_versions::list_tree(pool, out, which, st.used, st.root));
     }
-    ListedAt::Refused(plain_refusal(1))
+    CountedAt::Refused(call_answers::refuse(BAD_POOL))
 }
 
-fn listed_of(r: ListedAt) -> Listed
-    ensures { λ q. ⌜ ofListed q ≡ toldListed r ⌝ }
-{
-    match r {
-        ListedAt::Done(n) => Listed::Done(n),
-        ListedAt::Refused(f) => Listed::Refused(f.number),
-    }
-}
-
-pub fn versions_of(pool: &[u8], st: State, key: i32, out: &mut [u8]) -> Listed
-    ensures { λ r. ⌜ written (ofListed r) (now (out .exit)) ≡ versionsOfCall (now (pool .entry)) st (rankOf key) (now (out .entry)) ⌝ }
+pub fn versions_of(pool: &[u8], st: State, key: i32, out: &mut [u8]) -> Counted
+    ensures { λ r. ⌜ written (ofCounted r) (now (out .exit)) ≡ versionsOfCall (now (pool .entry)) st (rankOf key) (now (out .entry)) ⌝ }
 {
     let rank = page::key::rank_of(key);
-    listed_of(list_at(pool, st, Which::Key(rank), out))
+    call_answers::counted_of(list_at(pool, st, Which::Key(rank), out))
 }
 
-pub fn all_versions(pool: &[u8], st: State, out: &mut [u8]) -> Listed
-    ensures { λ r. ⌜ written (ofListed r) (now (out .exit)) ≡ allVersionsCall (now (pool .entry)) st (now (out .entry)) ⌝ }
+pub fn all_versions(pool: &[u8], st: State, out: &mut [u8]) -> Counted
+    ensures { λ r. ⌜ written (ofCounted r) (now (out .exit)) ≡ allVersionsCall (now (pool .entry)) st (now (out .entry)) ⌝ }
 {
-    listed_of(list_at(pool, st, Which::All, out))
+    call_answers::counted_of(list_at(pool, st, Which::All, out))
 }
 
 // The page numbers, with the fault behind a BadTree.
-pub fn numbers_at(pool: &[u8], st: State, out: &mut [u8]) -> ListedAt
+pub fn numbers_at(pool: &[u8], st: State, out: &mut [u8]) -> CountedAt
     ensures { λ r. ⌜ written r (now (out .exit)) ≡ numbersRun (now (pool .entry)) st (now (out .entry)) ⌝ }
 {
     if page::pool::pool_is_good(pool, st) {
         return listed_at(list_pages::list_numbers(pool, out, st.used, st.root));
     }
-    ListedAt::Refused(plain_refusal(1))
+    CountedAt::Refused(call_answers::refuse(BAD_POOL))
 }
 
-pub fn page_numbers(pool: &[u8], st: State, out: &mut [u8]) -> Listed
-    ensures { λ r. ⌜ written (ofListed r) (now (out .exit)) ≡ pageNumbersCall (now (pool .entry)) st (now (out .entry)) ⌝ }
+pub fn page_numbers(pool: &[u8], st: State, out: &mut [u8]) -> Counted
+    ensures { λ r. ⌜ written (ofCounted r) (now (out .exit)) ≡ pageNumbersCall (now (pool .entry)) st (now (out .entry)) ⌝ }
 {
-    listed_of(numbers_at(pool, st, out))
+    call_answers::counted_of(numbers_at(pool, st, out))
 }
 
 // The visible versions, with the fault behind a BadTree.
@@ -303,29 +248,29 @@ pub fn scan_at(
     ids: &[u64],
     states: &[u8],
     out: &mut [u8],
-) -> ListedAt
-    ensures { λ r. ⌜ written r (now (out .exit)) ≡ scanRun (now (pool .entry)) st xmax (now (active .entry)) cur (now (ids .entry)) (now (states .entry)) (now (out .entry)) ⌝ }
+) -> CountedAt
+    ensures { λ r. ⌜ written r (now (out .exit)) ≡ scanRun (now (pool .entry)) st (snapshot xmax (now (active .entry)) cur) (statuses (now (ids .entry)) (now (states .entry))) (now (out .entry)) ⌝ }
 {
     if page::pool::pool_is_good(pool, st) {
         if mvcc::lists::good_active(active) {
             if mvcc::lists::good_statuses(ids, states) {
                 return listed_at(list_visible::scan_tree(
                     pool,
-                    out,
-                    ids,
-                    states,
-                    active,
-                    xmax,
-                    cur,
                     st.used,
                     st.root,
+                    xmax,
+                    active,
+                    cur,
+                    ids,
+                    states,
+                    out,
                 ));
             }
-            return ListedAt::Refused(plain_refusal(4));
+            return CountedAt::Refused(call_answers::refuse(BAD_STATUSES));
         }
-        return ListedAt::Refused(plain_refusal(3));
+        return CountedAt::Refused(call_answers::refuse(BAD_SNAPSHOT));
     }
-    ListedAt::Refused(plain_refusal(1))
+    CountedAt::Refused(call_answers::refuse(BAD_POOL))
 }
 
 pub fn scan_visible(
@@ -337,8 +282,8 @@ pub fn scan_visible(
     ids: &[u64],
     states: &[u8],
     out: &mut [u8],
-) -> Listed
-    ensures { λ r. ⌜ written (ofListed r) (now (out .exit)) ≡ scanVisibleCall (now (pool .entry)) st xmax (now (active .entry)) cur (now (ids .entry)) (now (states .entry)) (now (out .entry)) ⌝ }
+) -> Counted
+    ensures { λ r. ⌜ written (ofCounted r) (now (out .exit)) ≡ scanVisibleCall (now (pool .entry)) st (snapshot xmax (now (active .entry)) cur) (statuses (now (ids .entry)) (now (states .entry))) (now (out .entry)) ⌝ }
 {
-    listed_of(scan_at(pool, st, xmax, active, cur, ids, states, out))
+    call_answers::counted_of(scan_at(pool, st, xmax, active, cur, ids, states, out))
 }

@@ -13,64 +13,66 @@ use Rattle.page.specs.Page.{page}
 use Rattle.page.specs.Pool.{goodPool}
 use Rattle.page.specs.declared.pool.State.{State}
 use Rattle.row.specs.declared.Cell.{Cell}
-use Rattle.mvcc.specs.Lists.{lookup, goodActive, goodStatuses}
-use Rattle.mvcc.specs.declared.Current.{Current}
+use Rattle.mvcc.specs.Snapshot.{lookup, goodStatuses, creatorOf, Snapshot, Statuses, goodSnapshot, statuses}
 use Rattle.leaf.specs.declared.find.Best.{Best}
 use Rattle.tree.specs.Lookup.{bestInTree}
 use Rattle.tree.specs.declared.ChainBest.{ChainBest}
 use Rattle.tree.specs.declared.ChainTest.{ChainTest}
-use Rattle.tree_room.specs.Room.{noFault, planned, roomOf}
+use Rattle.row.specs.Fault.{noFault}
+use Rattle.tree_room.specs.Room.{planned, roomOf}
 use Rattle.tree_room.specs.declared.Planned.{Planned}
-use Rattle.tree_room.proofs.Telling.{plan-told}
-use Rattle.tree_insert.specs.Ready.{creatorOf}
-use Rattle.tree_stamp.specs.Target.{targetOf, Met}
+use Rattle.tree_stamp.specs.Target.{targetOf}
+use Rattle.tree_stamp.specs.Steps.Target.{CellMet}
 use Rattle.tree_stamp.specs.Stamp.{bytesStamped, stampPlan}
 use Rattle.tree_stamp.specs.Ready.{marking, notMarking, onTest, markingAt}
 use Rattle.tree_stamp.specs.declared.Target.{Target}
 use Rattle.tree_stamp.specs.declared.ready.Marking.{Marking}
-use Rattle.tree_stamp.proofs.Meeting.{best-met}
-use Rattle.call_read.specs.Find.{plain, lookedBest, findVisibleRun}
-use Rattle.call_read.specs.declared.Looked.{Looked}
-use Rattle.call_stamp.specs.Mark.{onLooked, conflictTold, Stampable, markReady}
+use Rattle.call_read.specs.Find.{lookedBest, findVisibleRun}
+use Rattle.call_answers.specs.Answer.{refusalOf}
+use Rattle.call_answers.specs.declared.Looked.{Looked}
+use Rattle.call_stamp.specs.Mark.{onLooked, conflictTold, markReady}
+use Rattle.call_stamp.specs.Steps.Mark.{Stampable}
 use Rattle.call_stamp.specs.Claim.{claimReady}
+use Rattle.tree_room.proofs.Telling.{plan-told}
+use Rattle.tree_stamp.proofs.Meeting.{best-met}
 
 -- ---- what a lookup that finds says
 
-pub record Finds (s : List ℕ) (st : State) (active ids states : List ℕ) (p : ℕ) (c : Cell) : Type 0 where
+pub record Finds (s : List ℕ) (st : State) (sn : Snapshot) (ss : Statuses) (p : ℕ) (c : Cell) : Type 0 where
   pub good : goodPool s st ≡ true
-  pub list : goodActive active ≡ true
-  pub statuses : goodStatuses ids states ≡ true
-  pub met : Met (st .used) p c s
+  pub list : goodSnapshot sn ≡ true
+  pub statuses : goodStatuses ss ≡ true
+  pub met : CellMet (st .used) p c s
 
-module _ (s : List ℕ) (st : State) (key xmax : ℕ) (active : List ℕ) (cur : Current) (ids states : List ℕ) where
-  pub looked-finds : {looked : Looked} {p : ℕ} {c : Cell} → looked ≡ findVisibleRun s st key xmax active cur ids states → looked ≡ Looked.At p c
-      → Finds s st active ids states p c
+module _ (s : List ℕ) (st : State) (key : ℕ) (sn : Snapshot) (ss : Statuses) where
+  pub looked-finds : {looked : Looked} {p : ℕ} {c : Cell} → looked ≡ findVisibleRun s st key sn ss → looked ≡ Looked.At p c
+      → Finds s st sn ss p c
   unfolding findVisibleRun
-  looked-finds {looked} {p} {c} is h = by-pool (goodPool s st) (goodActive active) (goodStatuses ids states) refl refl refl (rw is at h)
+  looked-finds {looked} {p} {c} is h = by-pool (goodPool s st) (goodSnapshot sn) (goodStatuses ss) refl refl refl (rw is at h)
     where
-      by-best : (y : ChainBest) → bestInTree (lookup ids states) active xmax cur (st .used) (st .root) key s ≡ y → lookedBest y ≡ Looked.At p c → Met (st .used) p c s
+      by-best : (y : ChainBest) → bestInTree s (st .used) (st .root) key sn (lookup ss) ≡ y → lookedBest y ≡ Looked.At p c → CellMet (st .used) p c s
       by-best (ChainBest.Ok (Best.At q d)) e u =
           let a : q ≡ p = cc in
           let b : d ≡ c = cc in
-          subst (λ (x : Cell). Met (st .used) p x s) b (subst (λ (x : ℕ). Met (st .used) x d s) a (best-met (lookup ids states) active xmax cur (st .used) key s (st .root) e))
+          subst (λ (x : Cell). CellMet (st .used) p x s) b (subst (λ (x : ℕ). CellMet (st .used) x d s) a (best-met sn (lookup ss) (st .used) key s (st .root) e))
       by-best (ChainBest.Ok Best.Nothing) e u = absurd (let z : _≡_ {A = ℕ} 0 1 = cc in omega arith)
       by-best (ChainBest.Bad f) e u = absurd (let z : _≡_ {A = ℕ} 0 1 = cc in omega arith)
 
-      by-pool : (a b d : Bool) → goodPool s st ≡ a → goodActive active ≡ b → goodStatuses ids states ≡ d
+      by-pool : (a b d : Bool) → goodPool s st ≡ a → goodSnapshot sn ≡ b → goodStatuses ss ≡ d
           → pick a
-          (pick b (pick d (lookedBest (bestInTree (lookup ids states) active xmax cur (st .used) (st .root) key s)) (Looked.Refused (plain 4))) (Looked.Refused (plain 3)))
-          (Looked.Refused (plain 1))
+          (pick b (pick d (lookedBest (bestInTree s (st .used) (st .root) key sn (lookup ss))) (Looked.Refused (refusalOf 4))) (Looked.Refused (refusalOf 3)))
+          (Looked.Refused (refusalOf 1))
           ≡ Looked.At p c
-          → Finds s st active ids states p c
+          → Finds s st sn ss p c
       by-pool true true true e f g u =
-          record { good = e; list = f; statuses = g; met = by-best (bestInTree (lookup ids states) active xmax cur (st .used) (st .root) key s) refl u }
+          record { good = e; list = f; statuses = g; met = by-best (bestInTree s (st .used) (st .root) key sn (lookup ss)) refl u }
       by-pool true true false e f g u = absurd (let z : _≡_ {A = ℕ} 0 1 = cc in omega arith)
       by-pool true false d e f g u = absurd (let z : _≡_ {A = ℕ} 0 1 = cc in omega arith)
       by-pool false b d e f g u = absurd (let z : _≡_ {A = ℕ} 0 1 = cc in omega arith)
 
 -- the target that is made of it
-pub target-met : (used : ℕ) (s : List ℕ) (p : ℕ) (c : Cell) {t : Target} → t ≡ targetOf p c (page p s) → Met used p c s
-    → Met used (t .leaf) (t .cell) s × (t ≡ targetOf (t .leaf) (t .cell) (page (t .leaf) s))
+pub target-met : (used : ℕ) (s : List ℕ) (p : ℕ) (c : Cell) {t : Target} → t ≡ targetOf p c (page p s) → CellMet used p c s
+    → CellMet used (t .leaf) (t .cell) s × (t ≡ targetOf (t .leaf) (t .cell) (page (t .leaf) s))
 target-met used s p c e m = rw e (m, refl)
 
 -- ---- what a judgement that is ok says
@@ -79,7 +81,7 @@ ok-planned : (st : State) (t : Target) (s : List ℕ) → stampPlan st t s .ok �
 unfolding stampPlan
 ok-planned st t s = plan-told st (t .leaf) _ _ s
 
-module _ (s : List ℕ) (st : State) (t : Target) (good : goodPool s st ≡ true) (met : Met (st .used) (t .leaf) (t .cell) s)
+module _ (s : List ℕ) (st : State) (t : Target) (good : goodPool s st ≡ true) (met : CellMet (st .used) (t .leaf) (t .cell) s)
     (is : t ≡ targetOf (t .leaf) (t .cell) (page (t .leaf) s)) where
   at-ok : (test : ChainTest) → markingAt s st test t .ok ≡ true → Stampable s st (markingAt s st test t)
   unfolding markingAt
@@ -105,35 +107,35 @@ module _ (s : List ℕ) (st : State) (t : Target) (good : goodPool s st ≡ true
       by-ok true plan n q r e y u = by-test plan n r (e q) y u
       by-ok false plan n q r e y u = absurd (let z : _≡_ {A = ℕ} 0 1 = cc in omega arith)
 
-module _ (s : List ℕ) (st : State) (key xmax : ℕ) (active : List ℕ) (cur : Current) (ids states : List ℕ) where
-  mark-at : (claiming : Bool) → markReady claiming s st key xmax active cur ids states .ok ≡ true → Stampable s st (markReady claiming s st key xmax active cur ids states)
+module _ (s : List ℕ) (st : State) (key : ℕ) (sn : Snapshot) (ss : Statuses) where
+  mark-at : (claiming : Bool) → markReady s st key sn ss claiming .ok ≡ true → Stampable s st (markReady s st key sn ss claiming)
   unfolding markReady
-  mark-at claiming h = by-looked (findVisibleRun s st key xmax active cur ids states) refl h
+  mark-at claiming h = by-looked (findVisibleRun s st key sn ss) refl h
     where
-      by-looked : (y : Looked) → findVisibleRun s st key xmax active cur ids states ≡ y
-          → onLooked (λ p c. markingAt s st (conflictTold claiming s st key xmax active cur ids states (c .version .creator)) (targetOf p c (page p s)))
+      by-looked : (y : Looked) → findVisibleRun s st key sn ss ≡ y
+          → onLooked (λ p c. markingAt s st (conflictTold s st key sn ss claiming (c .version .creator)) (targetOf p c (page p s)))
           (λ r. notMarking (r .number) (r .fault)) y .ok
           ≡ true
           → Stampable s st
-          (onLooked (λ p c. markingAt s st (conflictTold claiming s st key xmax active cur ids states (c .version .creator)) (targetOf p c (page p s)))
+          (onLooked (λ p c. markingAt s st (conflictTold s st key sn ss claiming (c .version .creator)) (targetOf p c (page p s)))
           (λ r. notMarking (r .number) (r .fault)) y)
       by-looked (Looked.At p c) e u =
-          let f = looked-finds s st key xmax active cur ids states {looked = Looked.At p c} (sym e) refl in
-          at-ok s st (targetOf p c (page p s)) (f .good) (f .met) refl (conflictTold claiming s st key xmax active cur ids states (c .version .creator)) u
+          let f = looked-finds s st key sn ss {looked = Looked.At p c} (sym e) refl in
+          at-ok s st (targetOf p c (page p s)) (f .good) (f .met) refl (conflictTold s st key sn ss claiming (c .version .creator)) u
       by-looked (Looked.Refused r) e u = absurd (let z : _≡_ {A = ℕ} 0 1 = cc in omega arith)
 
-  pub mark-ok : (claiming : Bool) {told : Marking} → told ≡ markReady claiming s st key xmax active cur ids states → told .ok ≡ true → Stampable s st told
+  pub mark-ok : (claiming : Bool) {told : Marking} → told ≡ markReady s st key sn ss claiming → told .ok ≡ true → Stampable s st told
   mark-ok claiming e h = rw e (mark-at claiming (rw e at h))
 
-  claim-at : claimReady s st key xmax active cur ids states .ok ≡ true → Stampable s st (claimReady s st key xmax active cur ids states)
+  claim-at : claimReady s st key sn ss .ok ≡ true → Stampable s st (claimReady s st key sn ss)
   unfolding claimReady
-  claim-at h = by-pool (goodPool s st) (eqb (creatorOf cur) 0) h
+  claim-at h = by-pool (goodPool s st) (eqb (creatorOf (sn .current)) 0) h
     where
-      by-pool : (a b : Bool) → pick a (pick b (notMarking 3 noFault) (markReady true s st key xmax active cur ids states)) (notMarking 1 noFault) .ok ≡ true
-          → Stampable s st (pick a (pick b (notMarking 3 noFault) (markReady true s st key xmax active cur ids states)) (notMarking 1 noFault))
+      by-pool : (a b : Bool) → pick a (pick b (notMarking 3 noFault) (markReady s st key sn ss true)) (notMarking 1 noFault) .ok ≡ true
+          → Stampable s st (pick a (pick b (notMarking 3 noFault) (markReady s st key sn ss true)) (notMarking 1 noFault))
       by-pool true true u = absurd (let z : _≡_ {A = ℕ} 0 1 = cc in omega arith)
       by-pool true false u = mark-at true u
       by-pool false b u = absurd (let z : _≡_ {A = ℕ} 0 1 = cc in omega arith)
 
-  pub claim-ok : {told : Marking} → told ≡ claimReady s st key xmax active cur ids states → told .ok ≡ true → Stampable s st told
+  pub claim-ok : {told : Marking} → told ≡ claimReady s st key sn ss → told .ok ≡ true → Stampable s st told
   claim-ok e h = rw e (claim-at (rw e at h))

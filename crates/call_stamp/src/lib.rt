@@ -3,25 +3,28 @@
 ghost use mathlib.Core.Path.{_≡_};
 ghost use mathlib.Core.Bool.{true};
 ghost use Rattle.page.specs.Key.{rankOf};
-ghost use Rattle.call_read.specs.Answer.{ended};
-ghost use Rattle.call_insert.specs.Answer.{ofStated};
-ghost use Rattle.call_stamp.specs.Mark.{notFound, Stampable, markReady, marked, markRun, markCall, markPlainCall, deleteCall};
+ghost use Rattle.call_answers.specs.Answer.{ended, ofStated};
+ghost use Rattle.call_stamp.specs.Steps.Mark.{notFound, Stampable};
+ghost use Rattle.call_stamp.specs.Mark.{markReady, marked, markRun, markCall, markPlainCall, deleteCall};
 ghost use Rattle.call_stamp.specs.Claim.{claimReady, claimRun, claimCall};
-use call_insert::Changed;
-use call_insert::Stated;
-use call_read::Looked;
-use call_read::Refusal;
+ghost use Rattle.mvcc.specs.Snapshot.{snapshot, statuses};
+use call_answers::ABSENT;
+use call_answers::BAD_POOL;
+use call_answers::BAD_SNAPSHOT;
+use call_answers::Changed;
+use call_answers::Looked;
+use call_answers::Refusal;
+use call_answers::Stated;
 use mvcc::Current;
+use mvcc::creator_of;
 use page::pool::State;
 use tree::ChainTest;
-use tree_insert::ready::creator_of;
 use tree_stamp::ready;
 use tree_stamp::ready::Marking;
 
 // What a stamp of the key's visible version would do, or a claim; it can be asked without storing.
 pub fn mark_ready(
     pool: &[u8],
-    claiming: bool,
     st: State,
     key: u32,
     xmax: u64,
@@ -29,8 +32,9 @@ pub fn mark_ready(
     cur: Current,
     ids: &[u64],
     states: &[u8],
+    claiming: bool,
 ) -> Marking
-    ensures { λ r. ⌜ r ≡ markReady claiming (now (pool .entry)) st key xmax (now (active .entry)) cur (now (ids .entry)) (now (states .entry)) ⌝ }
+    ensures { λ r. ⌜ r ≡ markReady (now (pool .entry)) st key (snapshot xmax (now (active .entry)) cur) (statuses (now (ids .entry)) (now (states .entry))) claiming ⌝ }
 {
     let looked = call_read::find_visible_at(pool, st, key, xmax, active, cur, ids, states);
     let Looked::At(p, c) = looked else {
@@ -41,16 +45,16 @@ pub fn mark_ready(
         let v = c.version;
         let test = tree::lookup::test_in_tree(
             pool,
-            true,
-            ids,
-            states,
-            active,
-            xmax,
-            cur,
             st.used,
             st.root,
-            v.creator,
             key,
+            xmax,
+            active,
+            cur,
+            ids,
+            states,
+            true,
+            v.creator,
         );
         return ready::marking_at(pool, st, test, t);
     }
@@ -66,7 +70,7 @@ fn not_found(looked: Looked) -> Marking
             let fault = r.fault;
             ready::refused_by(r.number, fault)
         }
-        Looked::At(_, _) => ready::refused(8),
+        Looked::At(_, _) => ready::refused(ABSENT),
     }
 }
 
@@ -92,16 +96,16 @@ pub fn mark_at(
     pool: &mut [u8],
     st: State,
     key: u32,
-    d: u64,
     xmax: u64,
     active: &[u64],
     cur: Current,
     ids: &[u64],
     states: &[u8],
+    d: u64,
 ) -> Changed
-    ensures { λ r. ⌜ ended r (now (pool .exit)) ≡ markRun (now (pool .entry)) st key d xmax (now (active .entry)) cur (now (ids .entry)) (now (states .entry)) ⌝ }
+    ensures { λ r. ⌜ ended r (now (pool .exit)) ≡ markRun (now (pool .entry)) st key (snapshot xmax (now (active .entry)) cur) (statuses (now (ids .entry)) (now (states .entry))) d ⌝ }
 {
-    let told = mark_ready(pool, false, st, key, xmax, active, cur, ids, states);
+    let told = mark_ready(pool, st, key, xmax, active, cur, ids, states, false);
     mark(pool, st, d, told)
 }
 
@@ -110,17 +114,17 @@ pub fn mark_deleted_visible(
     pool: &mut [u8],
     st: State,
     key: i32,
-    d: u64,
     xmax: u64,
     active: &[u64],
     cur: Current,
     ids: &[u64],
     states: &[u8],
+    d: u64,
 ) -> Stated
-    ensures { λ r. ⌜ ended (ofStated r) (now (pool .exit)) ≡ markCall (now (pool .entry)) st (rankOf key) d xmax (now (active .entry)) cur (now (ids .entry)) (now (states .entry)) ⌝ }
+    ensures { λ r. ⌜ ended (ofStated r) (now (pool .exit)) ≡ markCall (now (pool .entry)) st (rankOf key) (snapshot xmax (now (active .entry)) cur) (statuses (now (ids .entry)) (now (states .entry))) d ⌝ }
 {
     let rank = page::key::rank_of(key);
-    call_insert::stated_of(mark_at(pool, st, rank, d, xmax, active, cur, ids, states))
+    call_answers::stated_of(mark_at(pool, st, rank, xmax, active, cur, ids, states, d))
 }
 
 // Plain stamp: the snapshot of the current transaction, if any, that sees all that is finished.
@@ -128,23 +132,23 @@ pub fn mark_deleted(
     pool: &mut [u8],
     st: State,
     key: i32,
-    d: u64,
     cur: Current,
     ids: &[u64],
     states: &[u8],
+    d: u64,
 ) -> Stated
-    ensures { λ r. ⌜ ended (ofStated r) (now (pool .exit)) ≡ markPlainCall (now (pool .entry)) st (rankOf key) d cur (now (ids .entry)) (now (states .entry)) ⌝ }
+    ensures { λ r. ⌜ ended (ofStated r) (now (pool .exit)) ≡ markPlainCall (now (pool .entry)) st (rankOf key) cur (statuses (now (ids .entry)) (now (states .entry))) d ⌝ }
 {
     mark_deleted_visible(
         pool,
         st,
         key,
-        d,
         mvcc::PLAIN_XMAX,
         &ids[0..0],
         cur,
         ids,
         states,
+        d,
     )
 }
 
@@ -157,9 +161,9 @@ pub fn delete(
     ids: &[u64],
     states: &[u8],
 ) -> Stated
-    ensures { λ r. ⌜ ended (ofStated r) (now (pool .exit)) ≡ deleteCall (now (pool .entry)) st (rankOf key) cur (now (ids .entry)) (now (states .entry)) ⌝ }
+    ensures { λ r. ⌜ ended (ofStated r) (now (pool .exit)) ≡ deleteCall (now (pool .entry)) st (rankOf key) cur (statuses (now (ids .entry)) (now (states .entry))) ⌝ }
 {
-    mark_deleted(pool, st, key, creator_of(cur), cur, ids, states)
+    mark_deleted(pool, st, key, cur, ids, states, creator_of(cur))
 }
 
 // What a claim would do; it can be asked without storing.
@@ -173,15 +177,15 @@ pub fn claim_ready(
     ids: &[u64],
     states: &[u8],
 ) -> Marking
-    ensures { λ r. ⌜ r ≡ claimReady (now (pool .entry)) st key xmax (now (active .entry)) cur (now (ids .entry)) (now (states .entry)) ⌝ }
+    ensures { λ r. ⌜ r ≡ claimReady (now (pool .entry)) st key (snapshot xmax (now (active .entry)) cur) (statuses (now (ids .entry)) (now (states .entry))) ⌝ }
 {
     if page::pool::pool_is_good(pool, st) {
         if creator_of(cur) == 0 {
-            return ready::refused(3);
+            return ready::refused(BAD_SNAPSHOT);
         }
-        return mark_ready(pool, true, st, key, xmax, active, cur, ids, states);
+        return mark_ready(pool, st, key, xmax, active, cur, ids, states, true);
     }
-    ready::refused(1)
+    ready::refused(BAD_POOL)
 }
 
 // Claim by rank, with the fault behind a BadTree.
@@ -195,7 +199,7 @@ pub fn claim_at(
     ids: &[u64],
     states: &[u8],
 ) -> Changed
-    ensures { λ r. ⌜ ended r (now (pool .exit)) ≡ claimRun (now (pool .entry)) st key xmax (now (active .entry)) cur (now (ids .entry)) (now (states .entry)) ⌝ }
+    ensures { λ r. ⌜ ended r (now (pool .exit)) ≡ claimRun (now (pool .entry)) st key (snapshot xmax (now (active .entry)) cur) (statuses (now (ids .entry)) (now (states .entry))) ⌝ }
 {
     let told = claim_ready(pool, st, key, xmax, active, cur, ids, states);
     mark(pool, st, creator_of(cur), told)
@@ -212,8 +216,8 @@ pub fn claim(
     ids: &[u64],
     states: &[u8],
 ) -> Stated
-    ensures { λ r. ⌜ ended (ofStated r) (now (pool .exit)) ≡ claimCall (now (pool .entry)) st (rankOf key) xmax (now (active .entry)) cur (now (ids .entry)) (now (states .entry)) ⌝ }
+    ensures { λ r. ⌜ ended (ofStated r) (now (pool .exit)) ≡ claimCall (now (pool .entry)) st (rankOf key) (snapshot xmax (now (active .entry)) cur) (statuses (now (ids .entry)) (now (states .entry))) ⌝ }
 {
     let rank = page::key::rank_of(key);
-    call_insert::stated_of(claim_at(pool, st, rank, xmax, active, cur, ids, states))
+    call_answers::stated_of(claim_at(pool, st, rank, xmax, active, cur, ids, states))
 }

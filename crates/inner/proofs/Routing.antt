@@ -9,7 +9,8 @@ use borrow.Author.Tests.{le-leb, lt-leb, leb-true, eq-eqb, ne-eqb}
 use lib.Dec.{leb, eqb}
 use Rattle.store.specs.Pick.{pick}
 use Rattle.page.specs.Header.{nodeType, cellCount}
-use Rattle.inner.specs.Inner.{keyAt, childAt, keysFrom, childrenFrom, neverFalls, structural, judgeInner}
+use Rattle.inner.specs.Inner.{keyAt, childAt, keysFrom, childrenFrom, neverFalls, judgeInner}
+use Rattle.row.specs.Fault.{structural}
 use Rattle.inner.specs.Route.{firstWhere}
 use Rattle.inner.specs.declared.InnerJudged.{InnerJudged}
 

@@ -6,17 +6,21 @@ use Prim.Native.Nat.{ℕ, zero, suc, _+_, _*_}
 use lib.Dec.{leb, eqb}
 use Rattle.store.specs.Pick.{pick}
 use Rattle.store.specs.Le.{leAt}
-use Rattle.page.specs.Header.{nodeType, cellCount}
+use Rattle.page.specs.Header.{nodeType, cellCount, headerSize, nodeInternal}
 use Rattle.page.specs.Key.{rankAt}
-use Rattle.row.specs.declared.Fault.{Fault}
 use Rattle.inner.specs.declared.InnerJudged.{InnerJudged}
+use Rattle.row.specs.Fault.{structural}
+
+-- "At most 510 keys"
+abbrev pub maxKeys : ℕ
+maxKeys = 510
 
 -- key i, by its rank, and child i; child i is left of key i
 unfoldable pub keyAt : List ℕ → ℕ → ℕ
 keyAt pg i = rankAt pg (16 + 8 * i)
 
 unfoldable pub childAt : List ℕ → ℕ → ℕ
-childAt pg i = leAt 4 pg (12 + 8 * i)
+childAt pg i = leAt 4 pg (headerSize + 8 * i)
 
 -- n keys, and n children, from the i-th on
 unfoldable pub keysFrom : (i n : ℕ) → List ℕ → List ℕ
@@ -38,13 +42,9 @@ unfoldable pub neverFalls : ℕ → List ℕ → Bool
 neverFalls x [] = true
 neverFalls x (y ∷ ys) = leb x y && neverFalls y ys
 
--- a fault of the page's structure
-abbrev pub structural : ℕ → Fault
-structural p = record { kind = 0; page = p; offset = 0 }
-
 -- page p with the bytes pg: how many keys it has, or its fault. A rank is never below 0.
 unfoldable pub judgeInner : ℕ → List ℕ → InnerJudged
 judgeInner p pg =
-    pick (eqb (nodeType pg) 0 && (leb 1 (cellCount pg) && (leb (cellCount pg) 510 && neverFalls 0 (keysOf pg))))
+    pick (eqb (nodeType pg) nodeInternal && (leb 1 (cellCount pg) && (leb (cellCount pg) maxKeys && neverFalls 0 (keysOf pg))))
     (InnerJudged.Ok (cellCount pg))
     (InnerJudged.Bad (structural p))

@@ -9,7 +9,12 @@ ghost use Rattle.inner.specs.Inner.{keyAt, childAt, keysFrom, childrenFr
 ghost use Rattle.inner.specs.Route.{firstWhere, searchRoute, insertRoute, childPlace};
 use row::Fault;
 
+// An internal page has at most so many keys and children; one more key divides it.
 pub const MAX_KEYS: usize = 510;
+
+pub const MAX_CHILDREN: usize = 511;
+
+pub const FULL: u16 = 510;
 
 // How many keys the page has, or its fault.
 pub enum InnerJudged {
@@ -28,7 +33,7 @@ pub fn child_at(pg: &[u8], i: usize) -> u32
     requires { ⌜ (i ≤ 510) × (length (now pg) ≡ 4096) ⌝ }
     ensures { λ r. ⌜ r ≡ childAt (now (pg .entry)) i ⌝ }
 {
-    store::get32(pg, 12 + 8 * i)
+    store::get32(pg, page::HEADER_SIZE + 8 * i)
 }
 
 // A flag and no way out of the loop, so that the compiler takes several keys at a time: this runs on every descent.
@@ -52,13 +57,9 @@ pub fn judge_inner(pg: &[u8], p: u32) -> InnerJudged
     requires { ⌜ length (now pg) ≡ 4096 ⌝ }
     ensures { λ r. ⌜ r ≡ judgeInner p (now (pg .entry)) ⌝ }
 {
-    let bad = Fault {
-        kind: 0,
-        page: p,
-        offset: 0,
-    };
+    let bad = row::structural_fault(p);
     let n = page::get_cell_count(pg) as usize;
-    if page::get_node_type(pg) != 0 {
+    if page::get_node_type(pg) != page::NODE_INTERNAL {
         return InnerJudged::Bad(bad);
     }
     if n < 1 {

@@ -7,17 +7,17 @@ use native.Mathlib.Omega.{arith}
 use lib.ListN.{length, length-append}
 use Rattle.store.specs.Le.{bytesLE, putAt}
 use Rattle.store.specs.Part.{part, put, pad}
+use Rattle.page.specs.Page.{page, setPage}
+use Rattle.page.specs.Header.{cellCount, withCount}
+use Rattle.page.specs.Key.{flip, keyBytes}
+use Rattle.inner.specs.Inner.{keyAt}
+use Rattle.inner_edit.specs.Edit.{pairBytes, entered, leftHalf, middleKey, rightHalf}
 use Rattle.store.proofs.LeLaws.{length-bytesLE, length-putAt}
 use Rattle.store.proofs.PartLaws.{length-part, part-add, part-peel, leAt-first, leAt-same}
 use Rattle.store.proofs.PutLaws.{putAt-put, put-part, put-after-at, length-put, part-put, part-put-below, part-thru}
 use Rattle.store.proofs.SeamLaws.{length-pad}
-use Rattle.page.specs.Page.{page, setPage}
-use Rattle.page.specs.Header.{cellCount, withCount}
-use Rattle.page.specs.Key.{flip, keyBytes}
 use Rattle.page.proofs.KeyLaws.{flip-flip, flip-less}
 use Rattle.page.proofs.PageLaws.{length-page, page-setPage, page-setPage-other, setPage-setPage, part-page, put-page}
-use Rattle.inner.specs.Inner.{keyAt}
-use Rattle.inner_edit.specs.Edit.{pairBytes, entered, leftHalf, middleKey, rightHalf}
 use Rattle.inner_edit.proofs.Editing.{length-pair, length-entered, entered-before, entered-pair, entered-after}
 
 -- ---- a page with 510 keys and a pair entered

@@ -7,15 +7,16 @@ use native.Mathlib.Omega.{arith}
 use lib.ListN.{length, length-append}
 use Rattle.store.specs.Le.{putAt}
 use Rattle.store.specs.Part.{part, put, zeros, pad, spliced}
-use Rattle.store.proofs.LeLaws.{length-bytesLE}
-use Rattle.store.proofs.PartLaws.{length-part}
-use Rattle.store.proofs.PutLaws.{putAt-put, put-field, put-before, part-thru, length-spliced}
-use Rattle.store.proofs.SeamLaws.{spliced-before, spliced-new, spliced-after, put-zeros}
 use Rattle.page.specs.Page.{page, setPage}
 use Rattle.page.specs.Header.{cellCount, withCount, withParent}
 use Rattle.page.specs.Key.{flip, keyBytes}
 use Rattle.inner.specs.Inner.{childAt}
-use Rattle.inner_edit.specs.Edit.{pairBytes, entered, withEntry, adopted, AdoptSafe}
+use Rattle.inner_edit.specs.Edit.{pairBytes, entered, withEntry, adopted}
+use Rattle.inner_edit.specs.Steps.Edit.{AdoptSafe}
+use Rattle.store.proofs.LeLaws.{length-bytesLE}
+use Rattle.store.proofs.PartLaws.{length-part}
+use Rattle.store.proofs.PutLaws.{putAt-put, put-field, put-before, part-thru, length-spliced}
+use Rattle.store.proofs.SeamLaws.{spliced-before, spliced-new, spliced-after, put-zeros}
 
 pub length-pair : (sep child : ℕ) → length (pairBytes sep child) ≡ 8
 length-pair sep child = simp (length-append, length-bytesLE)

@@ -9,16 +9,16 @@ use borrow.Author.Tests.{le-leb, le-ltb}
 use lib.ListN.{length, take, drop, getD, length-append, length-replicate}
 use Rattle.store.specs.Le.{leAt, bytesLE, putAt}
 use Rattle.store.specs.Part.{part, pad, zeros}
+use Rattle.page.specs.Header.{cellCount, withCount, withIsRoot}
+use Rattle.page.specs.Key.{flip, keyBytes}
+use Rattle.inner.specs.Inner.{keyAt, childAt, keysFrom, keysOf, childrenFrom, childrenOf}
+use Rattle.inner.specs.Route.{firstWhere}
+use Rattle.inner_edit.specs.Edit.{entered, withEntry, leftHalf, middleKey, rightHalf, topPage}
+use Rattle.inner_edit.specs.Facts.{insertAt, EntryEnters, HalvesDivide, TopHasTwo, EqualParts}
 use Rattle.store.proofs.LeLaws.{length-bytesLE, length-putAt, leAt-putAt, leAt-putAt-below, leAt-putAt-above}
 use Rattle.store.proofs.PartLaws.{length-part, leAt-part, leAt-same, leAt-first, part-peel}
 use Rattle.store.proofs.SeamLaws.{part-right, length-pad, part-pad}
-use Rattle.page.specs.Header.{cellCount, withCount, withIsRoot}
-use Rattle.page.specs.Key.{flip, keyBytes}
 use Rattle.page.proofs.KeyLaws.{flip-flip, flip-less}
-use Rattle.inner.specs.Inner.{keyAt, childAt, keysFrom, keysOf, childrenFrom, childrenOf}
-use Rattle.inner.specs.Route.{firstWhere}
-use Rattle.inner_edit.specs.Edit.{entered, withEntry, leftHalf, middleKey, rightHalf, topOf}
-use Rattle.inner_edit.specs.Facts.{insertAt, EntryEnters, HalvesDivide, TopHasTwo, EqualParts}
 use Rattle.inner_edit.proofs.Editing.{length-entered, entered-before, entered-pair, entered-after}
 use Rattle.inner_edit.proofs.Dividing.{length-left, length-right}
 use Rattle.inner_edit.proofs.Lists.{keys-read, children-read, read-ext, read-take, read-drop, read-at, read-insert}
@@ -184,29 +184,29 @@ module _ (left sep right : ℕ) (z : List ℕ) (len : length z ≡ 4096) where
   length-sep : length with-sep ≡ 4096
   length-sep = rw (length-putAt, length-putAt, length-putAt, length-putAt) len
 
-  top-count : cellCount (topOf left sep right z) ≡ 1
-  unfolding topOf
+  top-count : cellCount (topPage left sep right z) ≡ 1
+  unfolding topPage
   top-count =
       leAt-putAt-below 2 4 with-sep 20 right 6 (omega arith)
       ∙ leAt-putAt-below 2 4 with-left 16 (flip sep) 6 (omega arith)
       ∙ leAt-putAt-below 2 4 with-count 12 left 6 (omega arith)
       ∙ leAt-putAt 2 (withIsRoot 1 z) 6 1 (rw length-putAt (omega arith)) (omega arith)
 
-  top-key : sep < 4294967296 → keyAt (topOf left sep right z) 0 ≡ sep
-  unfolding topOf keyAt
+  top-key : sep < 4294967296 → keyAt (topPage left sep right z) 0 ≡ sep
+  unfolding topPage keyAt
   top-key s =
       ap flip (leAt-putAt-below 4 4 with-sep 20 right 16 (omega arith) ∙ leAt-putAt 4 with-left 16 (flip sep) (rw (length-putAt, length-putAt, length-putAt) (omega arith)) (flip-less sep))
       ∙ flip-flip sep s
 
-  top-left : left < 4294967296 → childAt (topOf left sep right z) 0 ≡ left
-  unfolding topOf childAt
+  top-left : left < 4294967296 → childAt (topPage left sep right z) 0 ≡ left
+  unfolding topPage childAt
   top-left l =
       leAt-putAt-below 4 4 with-sep 20 right 12 (omega arith)
       ∙ leAt-putAt-below 4 4 with-left 16 (flip sep) 12 (omega arith)
       ∙ leAt-putAt 4 with-count 12 left (rw (length-putAt, length-putAt) (omega arith)) l
 
-  top-right : right < 4294967296 → childAt (topOf left sep right z) 1 ≡ right
-  unfolding topOf childAt
+  top-right : right < 4294967296 → childAt (topPage left sep right z) 1 ≡ right
+  unfolding topPage childAt
   top-right r = leAt-putAt 4 with-sep 20 right (omega (arith, length-sep)) r
 
 pub top-has-two : TopHasTwo

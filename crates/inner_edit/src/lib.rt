@@ -7,7 +7,22 @@ ghost use lib.ListN.{length};
 ghost use Rattle.store.specs.Part.{part, put, pad};
 ghost use Rattle.page.specs.Page.{page, setPage};
 ghost use Rattle.page.specs.Header.{cellCount, withCount, withParent};
-ghost use Rattle.inner_edit.specs.Edit.{pairBytes, entered, withEntry, leftHalf, middleKey, rightHalf, topOf, adopted, AdoptSafe};
+ghost use Rattle.inner_edit.specs.Edit.{pairBytes, entered, withEntry, leftHalf, middleKey, rightHalf, topPage, adopted};
+ghost use Rattle.inner_edit.specs.Steps.Edit.{AdoptSafe};
+
+// A page with 511 keys keeps 255 keys and 256 children, which end at byte 2056; the middle key follows, and what goes to the
+// right page is 2044 bytes from 2060 on.
+pub const KEPT_KEYS: usize = 255;
+
+pub const KEPT_CHILDREN: usize = 256;
+
+const KEPT_COUNT: u16 = 255;
+
+const KEPT_END: usize = 2056;
+
+const MOVED_START: usize = 2060;
+
+const MOVED_BYTES: usize = 2044;
 
 fn put_pair(s: &mut [u8], a: usize, sep: u32, child: u32)
     requires { ⌜ a + 8 ≤ length (now s) ⌝ }
@@ -48,11 +63,11 @@ pub fn enter(pg: &mut [u8], i: usize, n: usize, sep: u32, child: u32)
 // The new top over two children, in a page of zeros.
 pub fn write_top(pg: &mut [u8], left: u32, sep: u32, right: u32)
     requires { ⌜ length (now pg) ≡ 4096 ⌝ }
-    ensures { λ _. ⌜ now (pg .exit) ≡ topOf left sep right (now (pg .entry)) ⌝ }
+    ensures { λ _. ⌜ now (pg .exit) ≡ topPage left sep right (now (pg .entry)) ⌝ }
 {
     page::set_is_root(pg, 1);
     page::set_cell_count(pg, 1);
-    store::put32(pg, 12, left);
+    store::put32(pg, page::HEADER_SIZE, left);
     page::key::put_rank(pg, 16, sep);
     store::put32(pg, 20, right);
 }
@@ -87,13 +102,13 @@ fn middle_key(pg: &[u8], i: usize, sep: u32) -> u32
     requires { ⌜ (length (now pg) ≡ 4096) × (i ≤ 510) × (cellCount (now pg) ≡ 510) ⌝ }
     ensures { λ r. ⌜ ((child : ℕ) → r ≡ middleKey i sep child (now (pg .entry))) ⌝ }
 {
-    if i < 255 {
+    if i < KEPT_KEYS {
         return inner::key_at(pg, 254);
     }
-    if i == 255 {
+    if i == KEPT_KEYS {
         return sep;
     }
-    inner::key_at(pg, 255)
+    inner::key_at(pg, KEPT_KEYS)
 }
 
 // Bytes 2060 to 4104 of the page with the pair entered, where the pair stands among them.
@@ -102,11 +117,11 @@ fn carry_around(pool: &mut [u8], p: u32, q: u32, i: usize, sep: u32, child: u32)
     ensures { λ _. ⌜ now (pool .exit) ≡ put (q * 4096 + 12) (part 2060 2044 (entered i sep child (page p (now (pool .entry))))) (now (pool .entry)) ⌝ }
 {
     let from = p as usize * page::PAGE_SIZE;
-    let to = q as usize * page::PAGE_SIZE + 12;
-    let k = 8 * (i - 256) + 4;
-    store::run::shift(pool, from + 2060, to, k);
+    let to = q as usize * page::PAGE_SIZE + page::HEADER_SIZE;
+    let k = 8 * (i - KEPT_CHILDREN) + 4;
+    store::run::shift(pool, from + MOVED_START, to, k);
     put_pair(pool, to + k, sep, child);
-    store::run::shift(pool, from + 2060 + k, to + k + 8, 2036 - k);
+    store::run::shift(pool, from + MOVED_START + k, to + k + 8, 2036 - k);
 }
 
 // The same bytes, wherever the pair stands. They go by offsets into the pool, since they lie in one page and go to another.
@@ -115,12 +130,12 @@ fn carry(pool: &mut [u8], p: u32, q: u32, i: usize, sep: u32, child: u32)
     ensures { λ _. ⌜ now (pool .exit) ≡ put (q * 4096 + 12) (part 2060 2044 (entered i sep child (page p (now (pool .entry))))) (now (pool .entry)) ⌝ }
 {
     let from = p as usize * page::PAGE_SIZE;
-    let to = q as usize * page::PAGE_SIZE + 12;
-    if i < 255 {
-        store::run::shift(pool, from + 2052, to, 2044);
-    } else if i == 255 {
+    let to = q as usize * page::PAGE_SIZE + page::HEADER_SIZE;
+    if i < KEPT_KEYS {
+        store::run::shift(pool, from + 2052, to, MOVED_BYTES);
+    } else if i == KEPT_KEYS {
         store::put32(pool, to, child);
-        store::run::shift(pool, from + 2056, to + 4, 2040);
+        store::run::shift(pool, from + KEPT_END, to + 4, 2040);
     } else {
         carry_around(pool, p, q, i, sep, child);
     }
@@ -133,7 +148,7 @@ fn right_half(pool: &mut [u8], p: u32, q: u32, i: usize, sep: u32, child: u32)
     carry(pool, p, q, i, sep, child);
     let a = q as usize * page::PAGE_SIZE;
     let e = a + page::PAGE_SIZE;
-    finish(&mut pool[a..e], 2056, 255);
+    finish(&mut pool[a..e], KEPT_END, KEPT_COUNT);
 }
 
 // The first 2056 bytes of the page with the pair entered; they are as they were where the pair stands after them.
@@ -141,7 +156,7 @@ fn keep(pg: &mut [u8], i: usize, sep: u32, child: u32)
     requires { ⌜ (length (now pg) ≡ 4096) × (i ≤ 510) × (cellCount (now pg) ≡ 510) ⌝ }
     ensures { λ _. ⌜ now (pg .exit) ≡ put 0 (part 0 2056 (entered i sep child (now (pg .entry)))) (now (pg .entry)) ⌝ }
 {
-    if i < 255 {
+    if i < KEPT_KEYS {
         open_pair(pg, 16 + 8 * i, 2048, sep, child);
     }
 }
@@ -151,7 +166,7 @@ fn left_half(pg: &mut [u8], i: usize, sep: u32, child: u32)
     ensures { λ _. ⌜ now (pg .exit) ≡ leftHalf i sep child (now (pg .entry)) ⌝ }
 {
     keep(pg, i, sep, child);
-    finish(pg, 2056, 255);
+    finish(pg, KEPT_END, KEPT_COUNT);
 }
 
 // Page p with 510 keys and the pair after child i: 255 keys stay, 255 go to page q, and the key between them is the answer.

@@ -6,8 +6,8 @@ use native.Mathlib.Omega.{arith}
 use lib.ListN.{length, List·getD-eq-default, length-take}
 use Rattle.store.specs.Le.{AreBytes}
 use Rattle.store.specs.Part.{part}
-use Rattle.store.proofs.PartLaws.{le-or-lt, getD-part}
 use Rattle.page.specs.Page.{page}
+use Rattle.store.proofs.PartLaws.{le-or-lt, getD-part}
 
 length-part-le : (a n : ℕ) (s : List ℕ) → length (part a n s) ≤ n
 unfolding part

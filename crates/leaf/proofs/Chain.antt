@@ -10,16 +10,17 @@ use lib.ListN.{length}
 use Rattle.store.specs.Pick.{pick}
 use Rattle.store.specs.Le.{AreBytes}
 use Rattle.store.specs.Part.{part}
-use Rattle.store.proofs.PartLaws.{length-part, part-add}
 use Rattle.page.specs.Header.{nodeType, cellCount}
 use Rattle.row.specs.Read.{cellAt}
 use Rattle.row.specs.declared.Cell.{Cell}
 use Rattle.row.specs.declared.read.CellRead.{CellRead}
-use Rattle.row.proofs.Exact.{read-is-written, cell-placed}
-use Rattle.leaf.specs.Cells.{Step, onCell, cellsOf, cells, inOrder, structural, stepOf, onStep, judgeCells, judgeLeaf}
+use Rattle.leaf.specs.Cells.{Step, onCell, cellsOf, cells, inOrder, stepOf, onStep, judgeCells, judgeLeaf}
+use Rattle.row.specs.Fault.{structural}
 use Rattle.leaf.specs.Rows.{AllFit, rowOf, rowsBytes}
 use Rattle.leaf.specs.RowFacts.{Sound}
 use Rattle.leaf.specs.declared.Judged.{Judged}
+use Rattle.store.proofs.PartLaws.{length-part, part-add}
+use Rattle.row.proofs.Exact.{read-is-written, cell-placed}
 use Rattle.leaf.proofs.Walking.{step-cell}
 use Rattle.leaf.proofs.Rowing.{endOf, rows-bytes}
 

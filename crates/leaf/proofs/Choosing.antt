@@ -9,24 +9,25 @@ use borrow.Author.Tests.{ltb-true, ltb-false, eq-eqb, eqb-true}
 use lib.Dec.{ltb, eqb}
 use Rattle.store.specs.Pick.{pick}
 use Rattle.mvcc.specs.Rules.{visible}
-use Rattle.mvcc.specs.declared.Current.{Current}
 use Rattle.page.specs.Header.{nodeType, cellCount}
 use Rattle.row.specs.declared.Cell.{Cell}
-use Rattle.leaf.specs.Cells.{Step, foldCells, structural, stepOf, onStep, judgeCells, judgeLeaf}
+use Rattle.leaf.specs.Cells.{Step, foldCells, stepOf, onStep, judgeCells, judgeLeaf}
+use Rattle.row.specs.Fault.{structural}
 use Rattle.leaf.specs.Find.{later, newest}
-use Rattle.leaf.specs.FindFacts.{Candidate, EachCandidate, Chosen, ChosenBy, LookupChooses, AnyPage}
+use Rattle.leaf.specs.FindFacts.{Candidate, EachCandidate, ChosenCell, ChosenBy, LookupChooses, AnyPage}
 use Rattle.leaf.specs.declared.find.Best.{Best}
 use Rattle.leaf.specs.declared.Judged.{Judged}
+use Rattle.mvcc.specs.Snapshot.{Snapshot}
 use Rattle.leaf.proofs.Walking.{step-cell, step-in}
 
 -- ---- what a lookup chooses
 
-module _ (st : ℕ → ℕ) (active : List ℕ) (xmax : ℕ) (cur : Current) (key : ℕ) where
+module _ (sn : Snapshot) (st : ℕ → ℕ) (key : ℕ) where
   abbrev Seen : Cell → Type 0
-  Seen c = Candidate st active xmax cur key c
+  Seen c = Candidate key sn st c
 
   abbrev Each : (Cell → Type 0) → List Cell → Type 0
-  Each P cs = EachCandidate st active xmax cur key P cs
+  Each P cs = EachCandidate key sn st P cs
 
   each-append : (P : Cell → Type 0) (xs ys : List Cell) → Each P xs → Each P ys → Each P (xs ++ ys)
   each-append P [] ys a b = b
@@ -38,12 +39,12 @@ module _ (st : ℕ → ℕ) (active : List ℕ) (xmax : ℕ) (cur : Current) (ke
 
   -- a cell is a candidate by the walk's own test, or is none
   abbrev test : Cell → Bool
-  test c = eqb (c .key) key && visible st active xmax cur (c .version .creator) (c .version .stamp)
+  test c = eqb (c .key) key && visible sn st (c .version .creator) (c .version .stamp)
 
   test-yes : (c : Cell) → test c ≡ true → Seen c
   test-yes c t = by-key (eqb (c .key) key) refl t
     where
-      by-key : (b : Bool) → eqb (c .key) key ≡ b → (b && visible st active xmax cur (c .version .creator) (c .version .stamp)) ≡ true → Seen c
+      by-key : (b : Bool) → eqb (c .key) key ≡ b → (b && visible sn st (c .version .creator) (c .version .stamp)) ≡ true → Seen c
       by-key true e q = record { of-key = eqb-true (c .key) key e; seen = q }
       by-key false e q = absurd (let z : _≡_ {A = ℕ} 0 1 = cc in omega arith)
 
@@ -54,7 +55,7 @@ module _ (st : ℕ → ℕ) (active : List ℕ) (xmax : ℕ) (cur : Current) (ke
       absurd (let z : _≡_ {A = ℕ} 0 1 = cc in omega arith)
 
   -- a cell after the chosen one that does not displace it
-  stays : (cs : List Cell) (o c : Cell) → Chosen st active xmax cur key cs o → (Seen c → c .version .creator < o .version .creator) → Chosen st active xmax cur key (cs ++ (c ∷ [])) o
+  stays : (cs : List Cell) (o c : Cell) → ChosenCell key sn st cs o → (Seen c → c .version .creator < o .version .creator) → ChosenCell key sn st (cs ++ (c ∷ [])) o
   stays cs o c ch h =
       record {
         before = ch .before;
@@ -66,10 +67,10 @@ module _ (st : ℕ → ℕ) (active : List ℕ) (xmax : ℕ) (cur : Current) (ke
       }
 
   -- a candidate that displaces what was chosen before it
-  displaces : (cs : List Cell) (c : Cell) → Seen c → Each (λ x. x .version .creator ≤ c .version .creator) cs → Chosen st active xmax cur key (cs ++ (c ∷ [])) c
+  displaces : (cs : List Cell) (c : Cell) → Seen c → Each (λ x. x .version .creator ≤ c .version .creator) cs → ChosenCell key sn st (cs ++ (c ∷ [])) c
   displaces cs c s a = record { before = cs; after = []; there = refl; candidate = s; none-larger = a; last = tt }
 
-  below : (cs : List Cell) (o c : Cell) → Chosen st active xmax cur key cs o → o .version .creator ≤ c .version .creator → Each (λ x. x .version .creator ≤ c .version .creator) cs
+  below : (cs : List Cell) (o c : Cell) → ChosenCell key sn st cs o → o .version .creator ≤ c .version .creator → Each (λ x. x .version .creator ≤ c .version .creator) cs
   below cs o c ch h =
       rw (ch .there)
       (each-append (λ x. x .version .creator ≤ c .version .creator) (ch .before) (o ∷ ch .after)
@@ -78,7 +79,7 @@ module _ (st : ℕ → ℕ) (active : List ℕ) (xmax : ℕ) (cur : Current) (ke
 
   module _ (p : ℕ) where
     abbrev By : List Cell → Best → Type 0
-    By cs best = ChosenBy st active xmax cur p key cs best
+    By cs best = ChosenBy p key sn st cs best
 
     -- one step of the walk
     passed : (cs : List Cell) (best : Best) (c : Cell) → (Seen c → ⊥) → By cs best → By (cs ++ (c ∷ [])) best
@@ -93,7 +94,7 @@ module _ (st : ℕ → ℕ) (active : List ℕ) (xmax : ℕ) (cur : Current) (ke
         by-creator true e = (b .0, stays cs o c (b .1) (λ z. ltb-true _ _ e))
         by-creator false e = (refl, displaces cs c s (below cs o c (b .1) (ltb-false _ _ e)))
 
-    step : (cs : List Cell) (best : Best) (c : Cell) → By cs best → By (cs ++ (c ∷ [])) (newest st active xmax cur p key best c)
+    step : (cs : List Cell) (best : Best) (c : Cell) → By cs best → By (cs ++ (c ∷ [])) (newest p key sn st best c)
     unfolding newest
     step cs best c b = by-test (test c) refl
       where
@@ -101,13 +102,13 @@ module _ (st : ℕ → ℕ) (active : List ℕ) (xmax : ℕ) (cur : Current) (ke
         by-test true e = taken cs best c (test-yes c e) b
         by-test false e = passed cs best c (test-no c e) b
 
-    walk-chooses : (rest cs : List Cell) (best : Best) → By cs best → By (cs ++ rest) (foldCells (newest st active xmax cur p key) best rest)
+    walk-chooses : (rest cs : List Cell) (best : Best) → By cs best → By (cs ++ rest) (foldCells (newest p key sn st) best rest)
     unfolding foldCells
     walk-chooses [] cs best b = rw append-nil b
-    walk-chooses (c ∷ rest) cs best b = rw append-assoc at (walk-chooses rest (cs ++ (c ∷ [])) (newest st active xmax cur p key best c) (step cs best c b))
+    walk-chooses (c ∷ rest) cs best b = rw append-assoc at (walk-chooses rest (cs ++ (c ∷ [])) (newest p key sn st best c) (step cs best c b))
 
 pub lookup-chooses : LookupChooses
-lookup-chooses st active xmax cur p key cs = walk-chooses st active xmax cur key p cs [] Best.Nothing tt
+lookup-chooses sn st p key cs = walk-chooses sn st key p cs [] Best.Nothing tt
 
 -- ---- any page number
 

@@ -9,11 +9,11 @@ use borrow.Author.Tests.{ltb-true, ltb-false}
 use lib.Dec.{ltb}
 use lib.ListN.{length, take, drop, length-drop}
 use Rattle.store.specs.Pick.{pick}
-use Rattle.store.proofs.PartLaws.{le-or-lt}
 use Rattle.leaf.specs.Place.{largerSide, betterCut, cutStep, cutAfter}
 use Rattle.leaf.specs.CutFacts.{sum, cutAt}
 use Rattle.leaf.specs.declared.place.Cut.{Cut}
 use Rattle.leaf.specs.declared.place.Cutting.{Cutting}
+use Rattle.store.proofs.PartLaws.{le-or-lt}
 
 -- of the cuts before cell i, none is better, and none earlier is as good
 pub record Best (t : ℕ) (xs : List ℕ) (i : ℕ) (cut : Cut) : Type 0 where

@@ -12,14 +12,15 @@ use Rattle.row.specs.Read.{cellAt}
 use Rattle.row.specs.declared.Cell.{Cell}
 use Rattle.row.specs.declared.read.CellRead.{CellRead}
 use Rattle.row.specs.declared.Fault.{Fault}
-use Rattle.leaf.specs.Cells.{Step, onCell, cellsOf, cells, foldCells, inOrder, structural, stepOf, onStep, judgeCells, judgeLeaf, onJudged, hasLarger}
+use Rattle.leaf.specs.Cells.{Step, onCell, cellsOf, cells, foldCells, inOrder, stepOf, onStep, judgeCells, judgeLeaf, onJudged, hasLarger}
+use Rattle.row.specs.Fault.{structural}
 use Rattle.store.specs.Pick.{pick}
 use Rattle.mvcc.specs.Rules.{visible, conflicting, claimConflicting}
-use Rattle.mvcc.specs.declared.Current.{Current}
 use Rattle.leaf.specs.Find.{later, newest, joined, runPast, running}
 use Rattle.leaf.specs.declared.find.Best.{Best}
 use Rattle.leaf.specs.declared.find.Run.{Run}
 use Rattle.leaf.specs.declared.Judged.{Judged}
+use Rattle.mvcc.specs.Snapshot.{Snapshot}
 use Rattle.leaf.proofs.Walking.{Walked, done, bad, walk, lastKey, onWalked, walked, step-cell, leaf-cells, leaf-other}
 
 or-same : (b : Bool) → (b || true) ≡ true
@@ -119,45 +120,45 @@ module _ (p : ℕ) (best : Best) (x : Cell) where
     pub later-new : o .version .creator ≤ x .version .creator → Best.At p x ≡ later p best x
     later-new h = rw (e, le-ltb _ _ h)
 
-module _ (st : ℕ → ℕ) (active : List ℕ) (xmax : ℕ) (cur : Current) (key : ℕ) (x : Cell) where
+module _ (sn : Snapshot) (st : ℕ → ℕ) (key : ℕ) (x : Cell) where
   module _ (p : ℕ) (best : Best) where
-    pub newest-other : (x .key ≡ key → ⊥) → best ≡ newest st active xmax cur p key best x
+    pub newest-other : (x .key ≡ key → ⊥) → best ≡ newest p key sn st best x
     unfolding newest
     newest-other h = rw (ne-eqb _ _ h)
 
-    module _ {b : Bool} (h : x .key ≡ key) (u : b ≡ visible st active xmax cur (x .version .creator) (x .version .stamp)) where
-      pub newest-seen : {r : Best} → b ≡ true → r ≡ later p best x → r ≡ newest st active xmax cur p key best x
+    module _ {b : Bool} (h : x .key ≡ key) (u : b ≡ visible sn st (x .version .creator) (x .version .stamp)) where
+      pub newest-seen : {r : Best} → b ≡ true → r ≡ later p best x → r ≡ newest p key sn st best x
       unfolding newest
       newest-seen t q = q ∙ rw (eq-eqb _ _ h, sym u ∙ t)
 
-      pub newest-unseen : b ≡ false → best ≡ newest st active xmax cur p key best x
+      pub newest-unseen : b ≡ false → best ≡ newest p key sn st best x
       unfolding newest
       newest-unseen t = rw (eq-eqb _ _ h, sym u ∙ t)
 
   module _ (claiming : Bool) (seen : ℕ) where
-    pub joined-skip : (found : Bool) → (x .key ≡ key → ⊥) → found ≡ joined claiming st active xmax cur seen key found x
+    pub joined-skip : (found : Bool) → (x .key ≡ key → ⊥) → found ≡ joined key sn st claiming seen found x
     unfolding joined
     joined-skip true h = refl
     joined-skip false h = rw (ne-eqb _ _ h)
 
   module _ (claiming : Bool) (seen : ℕ) (found : Bool) where
-    pub joined-found : found ≡ true → true ≡ joined claiming st active xmax cur seen key found x
+    pub joined-found : found ≡ true → true ≡ joined key sn st claiming seen found x
     unfolding joined
     joined-found e = rw e
 
     module _ (e : found ≡ false) where
-      pub joined-other : (x .key ≡ key → ⊥) → false ≡ joined claiming st active xmax cur seen key found x
+      pub joined-other : (x .key ≡ key → ⊥) → false ≡ joined key sn st claiming seen found x
       unfolding joined
       joined-other h = rw (e, ne-eqb _ _ h)
 
       module _ {b : Bool} (h : x .key ≡ key) where
-        pub joined-claim : claiming ≡ true → b ≡ claimConflicting st active xmax cur seen (x .version .creator) (x .version .stamp)
-            → b ≡ joined claiming st active xmax cur seen key found x
+        pub joined-claim : claiming ≡ true → b ≡ claimConflicting sn st seen (x .version .creator) (x .version .stamp)
+            → b ≡ joined key sn st claiming seen found x
         unfolding joined
         joined-claim t q = q ∙ rw (e, eq-eqb _ _ h, t)
 
-        pub joined-ported : claiming ≡ false → b ≡ conflicting active xmax cur seen (x .version .creator) (x .version .stamp)
-            → b ≡ joined claiming st active xmax cur seen key found x
+        pub joined-ported : claiming ≡ false → b ≡ conflicting sn seen (x .version .creator) (x .version .stamp)
+            → b ≡ joined key sn st claiming seen found x
         unfolding joined
         joined-ported t q = q ∙ rw (e, eq-eqb _ _ h, t)
 

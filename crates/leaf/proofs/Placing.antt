@@ -11,12 +11,12 @@ use Rattle.store.specs.Pick.{pick}
 use Rattle.row.specs.Read.{cellAt}
 use Rattle.row.specs.declared.Cell.{Cell}
 use Rattle.row.specs.declared.read.CellRead.{CellRead}
-use Rattle.row.proofs.Exact.{cell-placed}
 use Rattle.leaf.specs.Cells.{onCell, cellsOf, inOrder}
 use Rattle.leaf.specs.Place.{pastCell, placeStep, largerSide, betterCut, cutStep, cutAfter, cutOf, sizesOf, cutLeaf, cutFits, uncut}
 use Rattle.leaf.specs.declared.place.Place.{Place}
 use Rattle.leaf.specs.declared.place.Cut.{Cut}
 use Rattle.leaf.specs.declared.place.Cutting.{Cutting}
+use Rattle.row.proofs.Exact.{cell-placed}
 
 -- ---- the place
 

@@ -6,14 +6,14 @@ use native.Mathlib.Omega.{arith}
 use lib.ListN.{length, length-append, length-map}
 use Rattle.store.specs.Le.{AreBytes, bytesLE}
 use Rattle.store.specs.Part.{part, pad}
-use Rattle.store.proofs.PartLaws.{length-part, leAt-same, part-part, part-bytes}
-use Rattle.store.proofs.PutLaws.{putAt-put, put-part, part-put-above}
-use Rattle.store.proofs.LeLaws.{length-bytesLE, length-putAt, leAt-putAt, leAt-putAt-below, leAt-putAt-above}
-use Rattle.store.proofs.SeamLaws.{part-left, part-right, part-whole, length-pad, part-pad}
 use Rattle.page.specs.Header.{cellCount, withCount}
 use Rattle.leaf.specs.Cells.{cells}
 use Rattle.leaf.specs.Rows.{Row, rowOf, rows, rowsBytes, writeRows}
 use Rattle.leaf.specs.RowFacts.{RowsAreRead, RowsFill}
+use Rattle.store.proofs.PartLaws.{length-part, leAt-same, part-part, part-bytes}
+use Rattle.store.proofs.PutLaws.{putAt-put, put-part, part-put-above}
+use Rattle.store.proofs.LeLaws.{length-bytesLE, length-putAt, leAt-putAt, leAt-putAt-below, leAt-putAt-above}
+use Rattle.store.proofs.SeamLaws.{part-left, part-right, part-whole, length-pad, part-pad}
 use Rattle.leaf.proofs.Rowing.{length-rows, rows-read}
 use Rattle.leaf.proofs.Chain.{chain-cells, chain-fits, judged-leaf, split-at}
 

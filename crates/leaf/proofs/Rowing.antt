@@ -7,16 +7,16 @@ use native.Mathlib.Omega.{arith}
 use lib.ListN.{length, length-append}
 use Rattle.store.specs.Le.{AreBytes}
 use Rattle.store.specs.Part.{part}
-use Rattle.store.proofs.PartLaws.{part-add, part-peel, part-first}
-use Rattle.store.proofs.PutLaws.{part-none}
 use Rattle.row.specs.Read.{cellAt}
 use Rattle.row.specs.Write.{stampLen, pointerLen, stampBytes, pointerBytes, headBytes, cellSize, cellBytes}
 use Rattle.row.specs.declared.Cell.{Cell}
 use Rattle.row.specs.declared.read.CellRead.{CellRead}
-use Rattle.row.proofs.Writing.{length-head, length-stamp, length-pointer, length-cell}
-use Rattle.row.proofs.Exact.{written-is-read, read-is-written, cell-placed}
 use Rattle.leaf.specs.Cells.{onCell, cellsOf}
 use Rattle.leaf.specs.Rows.{Row, AllFit, rowOf, rowsOf, rowSize, rowBytes, rowsBytes}
+use Rattle.store.proofs.PartLaws.{part-add, part-peel, part-first}
+use Rattle.store.proofs.PutLaws.{part-none}
+use Rattle.row.proofs.Writing.{length-head, length-stamp, length-pointer, length-cell}
+use Rattle.row.proofs.Exact.{written-is-read, read-is-written, cell-placed}
 
 -- ---- written, then read
 

@@ -11,15 +11,18 @@ use borrow.Author.Tests.{lt-ltb, le-ltb, eq-eqb, ne-eqb}
 use lib.Dec.{leb}
 use Rattle.store.specs.Pick.{pick}
 use Rattle.page.specs.Header.{nodeType, cellCount}
-use Rattle.row.specs.Read.{cellAt, endOf, endAt}
+use Rattle.row.specs.Read.{cellAt}
+use Rattle.row.specs.Steps.Read.{endOf, endAt}
 use Rattle.store.specs.Le.{leAt}
 use Rattle.page.specs.Key.{rankAt}
 use Rattle.row.specs.declared.Cell.{Cell}
 use Rattle.row.specs.declared.Fault.{Fault}
 use Rattle.row.specs.declared.read.CellRead.{CellRead}
-use Rattle.leaf.specs.Cells.{Step, onCell, cellsOf, foldCells, inOrder, structural, cellFault, stepOf, onStep, stepEnd, stepFault, judgeCells, judgeLeaf, onJudged}
-use Rattle.row.proofs.Exact.{cell-placed, cell-fields}
+use Rattle.leaf.specs.Cells.{Step, onCell, cellsOf, foldCells, inOrder, stepOf, onStep, judgeCells, judgeLeaf, onJudged}
+use Rattle.row.specs.Fault.{structural, cellFault}
+use Rattle.leaf.specs.Steps.Cells.{stepEnd, stepFault}
 use Rattle.leaf.specs.declared.Judged.{Judged}
+use Rattle.row.proofs.Exact.{cell-placed, cell-fields}
 
 -- where the walk ended, the last key, and what the fold gave; or the first fault
 pub data Walked (A : Type 0) : Type 0 where

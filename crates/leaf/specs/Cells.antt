@@ -5,12 +5,13 @@ use mathlib.Core.List.{List, [], _∷_}
 use Prim.Native.Nat.{ℕ, zero, suc}
 use lib.Dec.{leb, ltb, eqb}
 use Rattle.store.specs.Pick.{pick}
-use Rattle.page.specs.Header.{nodeType, cellCount}
+use Rattle.page.specs.Header.{nodeType, cellCount, headerSize, nodeLeaf}
 use Rattle.row.specs.Read.{cellAt}
 use Rattle.row.specs.declared.Cell.{Cell}
 use Rattle.row.specs.declared.Fault.{Fault}
 use Rattle.row.specs.declared.read.CellRead.{CellRead}
 use Rattle.leaf.specs.declared.Judged.{Judged}
+use Rattle.row.specs.Fault.{cellFault, structural}
 
 -- go on with what was read
 abbrev pub onCell : {A : Type 0} → (Cell → A) → (ℕ → A) → CellRead → A
@@ -24,7 +25,7 @@ cellsOf (suc n) at s = onCell (λ c. c ∷ cellsOf n (c .next) s) (λ kind. []) 
 
 -- the cells of a leaf page
 abbrev pub cells : List ℕ → List Cell
-cells pg = cellsOf (cellCount pg) 12 pg
+cells pg = cellsOf (cellCount pg) headerSize pg
 
 -- a fold over cells, the first one first
 unfoldable pub foldCells : {A : Type 0} → (A → Cell → A) → A → List Cell → A
@@ -34,13 +35,6 @@ foldCells f a (c ∷ cs) = foldCells f (f a c) cs
 -- the key k with the creator c is not before k₀ with c₀
 unfoldable pub inOrder : (k₀ c₀ k c : ℕ) → Bool
 inOrder k₀ c₀ k c = ltb k₀ k || (eqb k₀ k && leb c₀ c)
-
--- a fault of page p: of its structure, or of the cell at `at`
-abbrev pub structural : ℕ → Fault
-structural p = record { kind = 0; page = p; offset = 0 }
-
-abbrev pub cellFault : (p at kind : ℕ) → Fault
-cellFault p at kind = record { kind = kind; page = p; offset = at }
 
 -- the next cell of a walk, or the fault that ends it
 pub data Step : Type 0 where
@@ -56,13 +50,6 @@ abbrev pub onStep : {A : Type 0} → (Cell → A) → (Fault → A) → Step →
 onStep good ill (Step.Got x) = good x
 onStep good ill (Step.Bad f) = ill f
 
--- where that cell ends, and 0 for a fault; and the fault of a cell after which a walk cannot go on
-unfoldable pub stepEnd : (k c at : ℕ) → List ℕ → ℕ
-stepEnd k c at s = onStep (λ x. x .next) (λ f. 0) (stepOf 0 k c at s)
-
-unfoldable pub stepFault : (p at : ℕ) → List ℕ → Fault
-stepFault p at s = onCell (λ x. structural p) (λ kind. cellFault p at kind) (cellAt s at)
-
 -- n cells from `at` on, after one of key k and creator c
 unfoldable pub judgeCells : (p k c n at : ℕ) → List ℕ → Judged
 judgeCells p k c zero at s = Judged.Ok at
@@ -70,7 +57,7 @@ judgeCells p k c (suc n) at s = onStep (λ x. judgeCells p (x .key) (x .version 
 
 -- page p with the bytes pg; no rank and no creator is below 0
 unfoldable pub judgeLeaf : ℕ → List ℕ → Judged
-judgeLeaf p pg = pick (eqb (nodeType pg) 1) (judgeCells p 0 0 (cellCount pg) 12 pg) (Judged.Bad (structural p))
+judgeLeaf p pg = pick (eqb (nodeType pg) nodeLeaf) (judgeCells p 0 0 (cellCount pg) headerSize pg) (Judged.Bad (structural p))
 
 abbrev pub onJudged : {A : Type 0} → (ℕ → A) → (Fault → A) → Judged → A
 onJudged good bad (Judged.Ok e) = good e

@@ -7,6 +7,7 @@ use Prim.Native.Nat.{ℕ, _+_, _≤_, _<_}
 use lib.ListN.{length, take, replicate}
 use Rattle.leaf.specs.Place.{largerSide, cutOf, cutFits}
 use Rattle.leaf.specs.declared.place.Cut.{Cut}
+use Rattle.page.specs.Header.{leafRoom}
 
 abbrev pub sum : List ℕ → ℕ
 sum [] = 0
@@ -21,7 +22,7 @@ Between m n (x ∷ xs) = (m ≤ x) × (x ≤ n) × Between m n xs
 abbrev pub cutAt : ℕ → List ℕ → Cut
 cutAt i xs = record { cells = i; bytes = sum (take i xs) }
 
-pub record Chosen (xs : List ℕ) (cut : Cut) : Type 0 where
+pub record BestCut (xs : List ℕ) (cut : Cut) : Type 0 where
   pub place : cut ≡ cutAt (cut .cells) xs
   pub left : 1 ≤ cut .cells
   pub right : cut .cells < length xs
@@ -30,11 +31,11 @@ pub record Chosen (xs : List ℕ) (cut : Cut) : Type 0 where
 
 -- of two cells or more, none empty
 abbrev pub CutIsBest : Type 0
-CutIsBest = (xs : List ℕ) (n : ℕ) → 2 ≤ length xs → Between 1 n xs → Chosen xs (cutOf (sum xs) xs)
+CutIsBest = (xs : List ℕ) (n : ℕ) → 2 ≤ length xs → Between 1 n xs → BestCut xs (cutOf (sum xs) xs)
 
 -- a leaf that was full to 4084 at most, one of its cells 8 bytes longer now: it divides
 abbrev pub StampDivides : Type 0
-StampDivides = (xs : List ℕ) → Between 19 4084 xs → 4084 < sum xs → sum xs ≤ 4092 → cutFits (sum xs) (cutOf (sum xs) xs) ≡ true
+StampDivides = (xs : List ℕ) → Between 19 leafRoom xs → leafRoom < sum xs → sum xs ≤ 4092 → cutFits (sum xs) (cutOf (sum xs) xs) ≡ true
 
 pub record CutCases : Type 0 where
   -- P4: with the 215th cell of empty data (4085 bytes) the cut is 107 and 108

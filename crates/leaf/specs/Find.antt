@@ -6,7 +6,6 @@ use Prim.Native.Nat.{ℕ, _+_}
 use lib.Dec.{ltb, eqb}
 use Rattle.store.specs.Pick.{pick}
 use Rattle.mvcc.specs.Rules.{visible, conflicting, claimConflicting}
-use Rattle.mvcc.specs.declared.Current.{Current}
 use Rattle.row.specs.declared.Stamp.{Stamp}
 use Rattle.row.specs.declared.Cell.{Cell}
 use Rattle.leaf.specs.Cells.{cells, foldCells, judgeLeaf, onJudged, hasLarger}
@@ -15,6 +14,8 @@ use Rattle.leaf.specs.declared.find.LeafBest.{LeafBest}
 use Rattle.leaf.specs.declared.find.LeafTest.{LeafTest}
 use Rattle.leaf.specs.declared.find.Run.{Run}
 use Rattle.leaf.specs.declared.find.LeafRun.{LeafRun}
+use Rattle.mvcc.specs.Snapshot.{Snapshot}
+use Rattle.page.specs.Header.{headerSize}
 
 -- "Lookup and stamp choose the largest visible creator; on a tie the last in chain order": of the best so far and a
 -- visible version of the key in page p
@@ -22,27 +23,27 @@ abbrev pub later : ℕ → Best → Cell → Best
 later p Best.Nothing c = Best.At p c
 later p (Best.At q o) c = pick (ltb (c .version .creator) (o .version .creator)) (Best.At q o) (Best.At p c)
 
-unfoldable pub newest : (ℕ → ℕ) → List ℕ → ℕ → Current → (p key : ℕ) → Best → Cell → Best
-newest st active xmax cur p key best c =
-    pick (eqb (c .key) key && visible st active xmax cur (c .version .creator) (c .version .stamp)) (later p best c) best
+unfoldable pub newest : (p key : ℕ) → Snapshot → (ℕ → ℕ) → Best → Cell → Best
+newest p key sn st best c =
+    pick (eqb (c .key) key && visible sn st (c .version .creator) (c .version .stamp)) (later p best c) best
 
 -- the best after this leaf, and whether the leaf holds a larger key, so that the search ends here
-unfoldable pub findLeaf : (ℕ → ℕ) → List ℕ → ℕ → Current → (p key : ℕ) → Best → List ℕ → LeafBest
-findLeaf st active xmax cur p key best pg =
-    onJudged (λ e. LeafBest.Ok (foldCells (newest st active xmax cur p key) best (cells pg)) (hasLarger key (cells pg))) (λ f. LeafBest.Bad f) (judgeLeaf p pg)
+unfoldable pub findLeaf : List ℕ → (p key : ℕ) → Snapshot → (ℕ → ℕ) → Best → LeafBest
+findLeaf pg p key sn st best =
+    onJudged (λ e. LeafBest.Ok (foldCells (newest p key sn st) best (cells pg)) (hasLarger key (cells pg))) (λ f. LeafBest.Bad f) (judgeLeaf p pg)
 
 -- the conflict test of one version: the ported one, or claim's own
-abbrev pub testOf : (claiming : Bool) → (ℕ → ℕ) → List ℕ → ℕ → Current → (seen creator : ℕ) → Stamp → Bool
-testOf claiming st active xmax cur seen creator stamp = pick claiming (claimConflicting st active xmax cur seen creator stamp) (conflicting active xmax cur seen creator stamp)
+abbrev pub testOf : Snapshot → (ℕ → ℕ) → (claiming : Bool) → (seen creator : ℕ) → Stamp → Bool
+testOf sn st claiming seen creator stamp = pick claiming (claimConflicting sn st seen creator stamp) (conflicting sn seen creator stamp)
 
 -- "if some version of the key ..": found so far, or this one
-unfoldable pub joined : (claiming : Bool) → (ℕ → ℕ) → List ℕ → ℕ → Current → (seen key : ℕ) → Bool → Cell → Bool
-joined claiming st active xmax cur seen key found c =
-    found || (eqb (c .key) key && testOf claiming st active xmax cur seen (c .version .creator) (c .version .stamp))
+unfoldable pub joined : (key : ℕ) → Snapshot → (ℕ → ℕ) → (claiming : Bool) → (seen : ℕ) → Bool → Cell → Bool
+joined key sn st claiming seen found c =
+    found || (eqb (c .key) key && testOf sn st claiming seen (c .version .creator) (c .version .stamp))
 
-unfoldable pub testLeaf : (claiming : Bool) → (ℕ → ℕ) → List ℕ → ℕ → Current → (p seen key : ℕ) → Bool → List ℕ → LeafTest
-testLeaf claiming st active xmax cur p seen key found pg =
-    onJudged (λ e. LeafTest.Ok (foldCells (joined claiming st active xmax cur seen key) found (cells pg)) (hasLarger key (cells pg))) (λ f. LeafTest.Bad f) (judgeLeaf p pg)
+unfoldable pub testLeaf : List ℕ → (p key : ℕ) → Snapshot → (ℕ → ℕ) → (claiming : Bool) → (seen : ℕ) → Bool → LeafTest
+testLeaf pg p key sn st claiming seen found =
+    onJudged (λ e. LeafTest.Ok (foldCells (joined key sn st claiming seen) found (cells pg)) (hasLarger key (cells pg))) (λ f. LeafTest.Bad f) (judgeLeaf p pg)
 
 -- the run of a key's cells, which stand together: where it starts and ends, and how many they are. Cells of a smaller key
 -- move both ends.
@@ -54,6 +55,6 @@ runPast key here k next =
 unfoldable pub running : ℕ → Run → Cell → Run
 running key here c = runPast key here (c .key) (c .next)
 
-unfoldable pub runLeaf : (p key : ℕ) → List ℕ → LeafRun
-runLeaf p key pg =
-    onJudged (λ e. LeafRun.Ok (foldCells (running key) (record { from = 12; to = 12; count = 0 }) (cells pg)) e (hasLarger key (cells pg))) (λ f. LeafRun.Bad f) (judgeLeaf p pg)
+unfoldable pub runLeaf : List ℕ → (p key : ℕ) → LeafRun
+runLeaf pg p key =
+    onJudged (λ e. LeafRun.Ok (foldCells (running key) (record { from = headerSize; to = headerSize; count = 0 }) (cells pg)) e (hasLarger key (cells pg))) (λ f. LeafRun.Bad f) (judgeLeaf p pg)

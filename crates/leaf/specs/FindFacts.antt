@@ -5,41 +5,41 @@ use mathlib.Core.Bool.{true}
 use mathlib.Core.List.{List, [], _∷_, _++_}
 use Prim.Native.Nat.{ℕ, _≤_, _<_}
 use Rattle.mvcc.specs.Rules.{visible}
-use Rattle.mvcc.specs.declared.Current.{Current}
 use Rattle.row.specs.declared.Cell.{Cell}
 use Rattle.leaf.specs.Cells.{foldCells, judgeLeaf}
 use Rattle.leaf.specs.Find.{newest}
 use Rattle.leaf.specs.declared.Judged.{Judged}
 use Rattle.leaf.specs.declared.find.Best.{Best}
+use Rattle.mvcc.specs.Snapshot.{Snapshot}
 
 -- a version of the key that is seen
-pub record Candidate (st : ℕ → ℕ) (active : List ℕ) (xmax : ℕ) (cur : Current) (key : ℕ) (c : Cell) : Type 0 where
+pub record Candidate (key : ℕ) (sn : Snapshot) (st : ℕ → ℕ) (c : Cell) : Type 0 where
   pub of-key : c .key ≡ key
-  pub seen : visible st active xmax cur (c .version .creator) (c .version .stamp) ≡ true
+  pub seen : visible sn st (c .version .creator) (c .version .stamp) ≡ true
 
 -- whatever is a candidate among cs meets P
-abbrev pub EachCandidate : (ℕ → ℕ) → List ℕ → ℕ → Current → ℕ → (Cell → Type 0) → List Cell → Type 0
-EachCandidate st active xmax cur key P [] = Unit
-EachCandidate st active xmax cur key P (c ∷ cs) = (Candidate st active xmax cur key c → P c) × EachCandidate st active xmax cur key P cs
+abbrev pub EachCandidate : ℕ → Snapshot → (ℕ → ℕ) → (Cell → Type 0) → List Cell → Type 0
+EachCandidate key sn st P [] = Unit
+EachCandidate key sn st P (c ∷ cs) = (Candidate key sn st c → P c) × EachCandidate key sn st P cs
 
 -- c is chosen among before, c and after: no candidate has a larger creator, and none after it an equal one
-pub record Chosen (st : ℕ → ℕ) (active : List ℕ) (xmax : ℕ) (cur : Current) (key : ℕ) (cs : List Cell) (c : Cell) : Type 0 where
+pub record ChosenCell (key : ℕ) (sn : Snapshot) (st : ℕ → ℕ) (cs : List Cell) (c : Cell) : Type 0 where
   pub before : List Cell
   pub after : List Cell
   pub there : cs ≡ before ++ (c ∷ after)
-  pub candidate : Candidate st active xmax cur key c
-  pub none-larger : EachCandidate st active xmax cur key (λ x. x .version .creator ≤ c .version .creator) before
-  pub last : EachCandidate st active xmax cur key (λ x. x .version .creator < c .version .creator) after
+  pub candidate : Candidate key sn st c
+  pub none-larger : EachCandidate key sn st (λ x. x .version .creator ≤ c .version .creator) before
+  pub last : EachCandidate key sn st (λ x. x .version .creator < c .version .creator) after
 
 -- what a walk from nothing ends with
-abbrev pub ChosenBy : (ℕ → ℕ) → List ℕ → ℕ → Current → (p key : ℕ) → List Cell → Best → Type 0
-ChosenBy st active xmax cur p key cs Best.Nothing = EachCandidate st active xmax cur key (λ x. ⊥) cs
-ChosenBy st active xmax cur p key cs (Best.At q c) = (q ≡ p) × Chosen st active xmax cur key cs c
+abbrev pub ChosenBy : (p key : ℕ) → Snapshot → (ℕ → ℕ) → List Cell → Best → Type 0
+ChosenBy p key sn st cs Best.Nothing = EachCandidate key sn st (λ x. ⊥) cs
+ChosenBy p key sn st cs (Best.At q c) = (q ≡ p) × ChosenCell key sn st cs c
 
 abbrev pub LookupChooses : Type 0
 LookupChooses =
-    (st : ℕ → ℕ) (active : List ℕ) (xmax : ℕ) (cur : Current) (p key : ℕ) (cs : List Cell)
-    → ChosenBy st active xmax cur p key cs (foldCells (newest st active xmax cur p key) Best.Nothing cs)
+    (sn : Snapshot) (st : ℕ → ℕ) (p key : ℕ) (cs : List Cell)
+    → ChosenBy p key sn st cs (foldCells (newest p key sn st) Best.Nothing cs)
 
 -- a judgement's yes is the same for any page number
 abbrev pub AnyPage : Type 0

@@ -6,3 +6,4 @@ pub mod Find
 pub mod FindFacts
 pub mod Place
 pub mod CutFacts
+pub mod Steps

@@ -11,6 +11,7 @@ use Rattle.leaf.specs.declared.place.Place.{Place}
 use Rattle.leaf.specs.declared.place.LeafPlace.{LeafPlace}
 use Rattle.leaf.specs.declared.place.Cut.{Cut}
 use Rattle.leaf.specs.declared.place.Cutting.{Cutting}
+use Rattle.page.specs.Header.{headerSize, leafRoom}
 
 -- past a cell of key k₁ and creator c₁ that is not after key k and creator c, and ends at next; no other moves the place
 abbrev pub pastCell : (k c : ℕ) → Place → (k₁ c₁ next : ℕ) → Place
@@ -21,11 +22,11 @@ placeStep k c here x = pastCell k c here (x .key) (x .version .creator) (x .next
 
 -- the offset past the last such cell, and how many cells stand before it; cells start at 12
 unfoldable pub placeOf : (k c : ℕ) → List Cell → Place
-placeOf k c cs = foldCells (placeStep k c) (record { at = 12; before = 0 }) cs
+placeOf k c cs = foldCells (placeStep k c) (record { at = headerSize; before = 0 }) cs
 
 -- the place in page p, after its judgement, and where its cells end
-unfoldable pub placeLeaf : (p k c : ℕ) → List ℕ → LeafPlace
-placeLeaf p k c pg = onJudged (λ e. LeafPlace.Ok (placeOf k c (cells pg)) e) (λ f. LeafPlace.Bad f) (judgeLeaf p pg)
+unfoldable pub placeLeaf : List ℕ → (p k c : ℕ) → LeafPlace
+placeLeaf pg p k c = onJudged (λ e. LeafPlace.Ok (placeOf k c (cells pg)) e) (λ f. LeafPlace.Bad f) (judgeLeaf p pg)
 
 -- the larger side of a cut, of t bytes in all
 abbrev pub largerSide : ℕ → Cut → ℕ
@@ -59,8 +60,8 @@ sizesOf cs = map (λ c. c .next - c .at) cs
 
 -- of a leaf, t bytes in all, in which a cell of m bytes stands after the first `before` cells, and `after` cells follow from b on
 unfoldable pub cutLeaf : (t before b after m : ℕ) → List ℕ → Cut
-cutLeaf t before b after m pg = cutOf t (sizesOf (cellsOf before 12 pg) ++ (m ∷ sizesOf (cellsOf after b pg)))
+cutLeaf t before b after m pg = cutOf t (sizesOf (cellsOf before headerSize pg) ++ (m ∷ sizesOf (cellsOf after b pg)))
 
 -- both sides hold cells and fit a page; otherwise the leaf is Undividable
 unfoldable pub cutFits : ℕ → Cut → Bool
-cutFits t cut = leb 1 (cut .cells) && leb (largerSide t cut) 4084
+cutFits t cut = leb 1 (cut .cells) && leb (largerSide t cut) leafRoom

@@ -6,13 +6,13 @@ use mathlib.Core.Bool.{Bool, true, _&&_}
 use Prim.Native.Nat.{ℕ, _≤_, _<_}
 use lib.ListN.{length}
 use Rattle.store.specs.Part.{part, pad}
-use Rattle.page.specs.Header.{cellCount, withCount}
-use Rattle.row.specs.Write.{cellBytes, cellSize}
+use Rattle.page.specs.Header.{cellCount, withCount, headerSize}
+use Rattle.row.specs.Write.{cellBytes, cellSize, maxData}
 use Rattle.row.specs.Exact.{StampFits, PointerFits}
 use Rattle.row.specs.declared.Stamp.{Stamp}
 use Rattle.row.specs.declared.Pointer.{Pointer}
 use Rattle.row.specs.declared.Cell.{Cell}
-use Rattle.leaf.specs.Cells.{cellsOf, inOrder}
+use Rattle.leaf.specs.Cells.{cellsOf}
 
 pub record Row : Type 0 where
   pub key : ℕ
@@ -27,7 +27,7 @@ pub record RowFits (r : Row) : Type 0 where
   pub creator : r .creator < 18446744073709551616
   pub stamp : StampFits (r .stamp)
   pub pointer : PointerFits (r .pointer)
-  pub body : length (r .body) ≤ 4051
+  pub body : length (r .body) ≤ maxData
 
 abbrev pub AllFit : List Row → Type 0
 AllFit [] = Unit
@@ -49,7 +49,7 @@ rowsOf n at s = map (rowOf s) (cellsOf n at s)
 
 -- the rows of a leaf page
 abbrev pub rows : List ℕ → List Row
-rows pg = rowsOf (cellCount pg) 12 pg
+rows pg = rowsOf (cellCount pg) headerSize pg
 
 abbrev pub rowSize : Row → ℕ
 rowSize r = cellSize (r .stamp) (r .pointer) (length (r .body))
@@ -61,11 +61,6 @@ unfoldable pub rowsBytes : List Row → List ℕ
 rowsBytes [] = []
 rowsBytes (r ∷ rs) = rowBytes r ++ rowsBytes rs
 
--- none is before the one before it, by key, then creator; the first not before k with c
-unfoldable pub ordered : (k c : ℕ) → List Row → Bool
-ordered k c [] = true
-ordered k c (r ∷ rs) = inOrder k c (r .key) (r .creator) && ordered (r .key) (r .creator) rs
-
 -- the leaf page with these rows
 unfoldable pub writeRows : List Row → List ℕ → List ℕ
-writeRows rs pg = withCount (length rs) (pad 4096 (part 0 12 pg ++ rowsBytes rs))
+writeRows rs pg = withCount (length rs) (pad 4096 (part 0 headerSize pg ++ rowsBytes rs))

@@ -6,7 +6,9 @@ pub mod place;
 ghost use mathlib.Core.Path.{_≡_};
 ghost use Prim.Native.Nat.{_<_};
 ghost use lib.ListN.{length};
-ghost use Rattle.leaf.specs.Cells.{inOrder, structural, cellFault, stepEnd, stepFault, judgeCells, judgeLeaf};
+ghost use Rattle.leaf.specs.Cells.{inOrder, judgeCells, judgeLeaf};
+ghost use Rattle.row.specs.Fault.{cellFault};
+ghost use Rattle.leaf.specs.Steps.Cells.{stepEnd, stepFault};
 use row::Fault;
 
 // Where the cells end, or the first fault in reading order.
@@ -25,16 +27,6 @@ pub fn in_order(k0: u32, c0: u64, k: u32, c: u64) -> bool
         return false;
     }
     c0 <= c
-}
-
-pub fn structural_fault(p: u32) -> Fault
-    ensures { λ r. ⌜ r ≡ structural p ⌝ }
-{
-    Fault {
-        kind: 0,
-        page: p,
-        offset: 0,
-    }
 }
 
 pub fn cell_fault(p: u32, at: usize, kind: u8) -> Fault
@@ -75,7 +67,7 @@ pub fn fault_at(pg: &[u8], p: u32, at: usize) -> Fault
 {
     match row::read::read_cell(pg, at) {
         row::read::CellRead::Bad(kind) => cell_fault(p, at, kind),
-        row::read::CellRead::Got(_) => structural_fault(p),
+        row::read::CellRead::Got(_) => row::structural_fault(p),
     }
 }
 
@@ -83,7 +75,7 @@ fn judge_cells(pg: &[u8], p: u32, n: usize) -> Judged
     requires { ⌜ length (now pg) ≡ 4096 ⌝ }
     ensures { λ r. ⌜ r ≡ judgeCells p 0 0 n 12 (now (pg .entry)) ⌝ }
 {
-    let mut at = 12;
+    let mut at = page::HEADER_SIZE;
     let mut left = n;
     let mut k: u32 = 0;
     let mut c: u64 = 0;
@@ -104,8 +96,8 @@ pub fn judge_leaf(pg: &[u8], p: u32) -> Judged
     requires { ⌜ length (now pg) ≡ 4096 ⌝ }
     ensures { λ r. ⌜ r ≡ judgeLeaf p (now (pg .entry)) ⌝ }
 {
-    if page::get_node_type(pg) != 1 {
-        return Judged::Bad(structural_fault(p));
+    if page::get_node_type(pg) != page::NODE_LEAF {
+        return Judged::Bad(row::structural_fault(p));
     }
     judge_cells(pg, p, page::get_cell_count(pg) as usize)
 }

@@ -44,16 +44,19 @@ fn past(key: u32, creator: u64, here: Place, k: u32, c: u64, next: usize) -> Pla
 // Judges the leaf and finds the place of a new version in one pass.
 pub fn place_in_leaf(pg: &[u8], p: u32, key: u32, creator: u64) -> LeafPlace
     requires { ⌜ length (now pg) ≡ 4096 ⌝ }
-    ensures { λ r. ⌜ r ≡ placeLeaf p key creator (now (pg .entry)) ⌝ }
+    ensures { λ r. ⌜ r ≡ placeLeaf (now (pg .entry)) p key creator ⌝ }
 {
-    if page::get_node_type(pg) != 1 {
-        return LeafPlace::Bad(crate::structural_fault(p));
+    if page::get_node_type(pg) != page::NODE_LEAF {
+        return LeafPlace::Bad(row::structural_fault(p));
     }
     let mut left = page::get_cell_count(pg) as usize;
-    let mut at = 12;
+    let mut at = page::HEADER_SIZE;
     let mut k: u32 = 0;
     let mut c: u64 = 0;
-    let mut here = Place { at: 12, before: 0 };
+    let mut here = Place {
+        at: page::HEADER_SIZE,
+        before: 0,
+    };
     while 0 < left {
         let end = crate::next_end(pg, k, c, at);
         if end == 0 {
@@ -136,7 +139,7 @@ pub fn cut_leaf(pg: &[u8], t: usize, before: usize, b: usize, after: usize, m: u
             best: none,
         },
         before,
-        12,
+        page::HEADER_SIZE,
     );
     let there = cut_step(t, first, m);
     let last = cut_cells(pg, t, there, after, b);
@@ -149,5 +152,5 @@ pub fn cut_fits(t: usize, cut: Cut) -> bool
     if cut.cells < 1 {
         return false;
     }
-    larger_side(t, cut) <= 4084
+    larger_side(t, cut) <= page::LEAF_ROOM
 }

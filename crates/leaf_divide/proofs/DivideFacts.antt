@@ -5,15 +5,15 @@ use Prim.Native.Nat.{ℕ, _+_, _-_}
 use native.Mathlib.Omega.{arith}
 use lib.ListN.{length, length-append}
 use Rattle.store.specs.Part.{part, zeros}
-use Rattle.store.proofs.PartLaws.{part-add}
-use Rattle.store.proofs.SeamLaws.{part-left, part-right, part-whole}
 use Rattle.page.specs.Header.{withNodeType, withNextLeaf}
 use Rattle.leaf.specs.Rows.{Row, rowsBytes, writeRows}
 use Rattle.leaf.specs.declared.place.Cut.{Cut}
-use Rattle.leaf.proofs.Rowing.{rows-append}
-use Rattle.leaf.proofs.RowFacts.{head-length}
 use Rattle.leaf_divide.specs.Divide.{leftLeaf, rightLeaf}
 use Rattle.leaf_divide.specs.DivideFacts.{DivideDivides}
+use Rattle.store.proofs.PartLaws.{part-add}
+use Rattle.store.proofs.SeamLaws.{part-left, part-right, part-whole}
+use Rattle.leaf.proofs.Rowing.{rows-append}
+use Rattle.leaf.proofs.RowFacts.{head-length}
 
 -- both sides, of a leaf that begins as pg
 module _ (pg : List ℕ) (left right : List Row) (len : length pg ≡ 4096) where

@@ -8,22 +8,22 @@ use lib.ListN.{length, take, drop, length-append, length-drop, length-replicate,
 use lib.Seq.{length-take-le, take-append-le, take-append-add, drop-append-le, drop-append-add, take-at, drop-at, take-all}
 use Rattle.store.specs.Le.{AreBytes, leAt, bytesLE, putAt}
 use Rattle.store.specs.Part.{part, put, zeros, pad, spliced}
-use Rattle.store.proofs.LeLaws.{length-bytesLE, length-putAt, leAt-putAt-below}
-use Rattle.store.proofs.PartLaws.{length-part, leAt-same, part-part, part-add}
-use Rattle.store.proofs.PutLaws.{put-def, put-splice, length-put, putAt-put, part-put-above, length-spliced}
-use Rattle.store.proofs.SeamLaws.{part-left, part-right, part-whole, spliced-before, spliced-new, spliced-after, length-pad, part-pad, put-zeros}
 use Rattle.page.specs.Page.{page, setPage}
 use Rattle.page.specs.Header.{nextLeaf, withNodeType, withCount, withNextLeaf}
-use Rattle.page.proofs.PageLaws.{length-page, length-setPage, page-setPage, page-setPage-other, leAt-page, putAt-page, part-page, put-page, setPage-setPage}
 use Rattle.row.specs.Read.{cellAt}
 use Rattle.row.specs.Write.{cellSize, cellBytes}
 use Rattle.row.specs.declared.Stamp.{Stamp}
 use Rattle.row.specs.declared.Cell.{Cell}
 use Rattle.row.specs.declared.read.CellRead.{CellRead}
-use Rattle.row.proofs.Writing.{length-cell}
 use Rattle.leaf.specs.declared.place.Cut.{Cut}
-use Rattle.leaf.proofs.Bytes.{bytes-page}
 use Rattle.leaf_divide.specs.Divide.{leftLeaf, rightLeaf, divided}
+use Rattle.store.proofs.LeLaws.{length-bytesLE, length-putAt, leAt-putAt-below}
+use Rattle.store.proofs.PartLaws.{length-part, leAt-same, part-part, part-add}
+use Rattle.store.proofs.PutLaws.{put-def, put-splice, length-put, putAt-put, part-put-above, length-spliced}
+use Rattle.store.proofs.SeamLaws.{part-left, part-right, part-whole, spliced-before, spliced-new, spliced-after, length-pad, part-pad, put-zeros}
+use Rattle.page.proofs.PageLaws.{length-page, length-setPage, page-setPage, page-setPage-other, leAt-page, putAt-page, part-page, put-page, setPage-setPage}
+use Rattle.row.proofs.Writing.{length-cell}
+use Rattle.leaf.proofs.Bytes.{bytes-page}
 use Rattle.leaf_edit.proofs.Editing.{spliced-is, grown, stamp-grown, bodyOf, cell-ends, cell-bytes}
 
 -- ---- zeros

@@ -26,7 +26,7 @@ fn part_leaf(pool: &mut [u8], p: u32, q: u32, c: usize, e: usize)
     let a = p as usize * PAGE_SIZE;
     let b = q as usize * PAGE_SIZE;
     store::put8(pool, b, 1);
-    store::run::shift(pool, a + c, b + 12, e - c);
+    store::run::shift(pool, a + c, b + page::HEADER_SIZE, e - c);
     store::run::zero_fill(pool, a + c, a + PAGE_SIZE);
 }
 
@@ -63,7 +63,7 @@ pub fn insert_divide_right(
     requires { ⌜ (length (now body) ≤ 4051) × (e + cellSize stamp pointer (length (now body)) ≤ 4096 + cut .bytes) ⌝ }
     ensures { λ _. ⌜ now (pool .exit) ≡ divided p q (n + 1) cut (spliced at at e (cellBytes key creator stamp pointer (now (body .entry))) (page p (now (pool .entry)))) (now (pool .entry)) ⌝ }
 {
-    part_leaf(pool, p, q, 12 + cut.bytes, e);
+    part_leaf(pool, p, q, page::HEADER_SIZE + cut.bytes, e);
     let b = q as usize * PAGE_SIZE;
     let z = b + PAGE_SIZE;
     leaf_edit::put_cell(
@@ -99,7 +99,7 @@ pub fn insert_divide_left(
     requires { ⌜ (at + cellSize stamp pointer (length (now body)) ≤ 12 + cut .bytes) × (12 + cut .bytes ≤ e + cellSize stamp pointer (length (now body))) ⌝ }
     ensures { λ _. ⌜ now (pool .exit) ≡ divided p q (n + 1) cut (spliced at at e (cellBytes key creator stamp pointer (now (body .entry))) (page p (now (pool .entry)))) (now (pool .entry)) ⌝ }
 {
-    let mid = 12 + cut.bytes - row::write::cell_size(stamp, pointer, body.len());
+    let mid = page::HEADER_SIZE + cut.bytes - row::write::cell_size(stamp, pointer, body.len());
     part_leaf(pool, p, q, mid, e);
     let a = p as usize * PAGE_SIZE;
     let z = a + PAGE_SIZE;
@@ -123,7 +123,7 @@ pub fn stamp_divide_right(
     requires { ⌜ (12 + cut .bytes ≤ c .at) × (e + 8 ≤ 4096 + cut .bytes) × (n < 65536) × (cut .cells ≤ n) ⌝ }
     ensures { λ _. ⌜ now (pool .exit) ≡ divided p q n cut (spliced (c .at) (c .next) e (cellBytes (c .key) (c .version .creator) (Stamp.By d) (c .version .pointer) (part (c .version .start) (c .version .len) (page p (now (pool .entry))))) (page p (now (pool .entry)))) (now (pool .entry)) ⌝ }
 {
-    part_leaf(pool, p, q, 12 + cut.bytes, e);
+    part_leaf(pool, p, q, page::HEADER_SIZE + cut.bytes, e);
     let b = q as usize * PAGE_SIZE;
     let z = b + PAGE_SIZE;
     leaf_edit::grow_stamp(
@@ -152,7 +152,7 @@ pub fn stamp_divide_left(
     requires { ⌜ (c .next + 8 ≤ 12 + cut .bytes) × (12 + cut .bytes ≤ e + 8) × (12 + cut .bytes ≤ 4096) × (n < 65536) × (cut .cells ≤ n) ⌝ }
     ensures { λ _. ⌜ now (pool .exit) ≡ divided p q n cut (spliced (c .at) (c .next) e (cellBytes (c .key) (c .version .creator) (Stamp.By d) (c .version .pointer) (part (c .version .start) (c .version .len) (page p (now (pool .entry))))) (page p (now (pool .entry)))) (now (pool .entry)) ⌝ }
 {
-    let mid = 12 + cut.bytes - 8;
+    let mid = page::HEADER_SIZE + cut.bytes - 8;
     part_leaf(pool, p, q, mid, e);
     let a = p as usize * PAGE_SIZE;
     let z = a + PAGE_SIZE;

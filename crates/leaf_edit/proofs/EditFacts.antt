@@ -5,20 +5,20 @@ use Prim.Native.Nat.{ℕ, zero, suc, _+_, _-_}
 use native.Mathlib.Omega.{arith}
 use lib.ListN.{length, take, drop, length-append, length-map, take-append-drop}
 use Rattle.store.specs.Part.{part, pad, spliced}
-use Rattle.store.proofs.PartLaws.{length-part}
 use Rattle.page.specs.Header.{cellCount}
 use Rattle.row.specs.declared.Cell.{Cell}
-use Rattle.row.proofs.Exact.{cell-placed}
 use Rattle.leaf.specs.Cells.{cells}
 use Rattle.leaf.specs.Rows.{Row, rowOf, rows, rowBytes, rowsBytes, writeRows}
 use Rattle.leaf.specs.Place.{placeOf}
 use Rattle.leaf.specs.RowFacts.{Sound}
+use Rattle.leaf_edit.specs.Edit.{withCell, withStamp, without}
+use Rattle.leaf_edit.specs.EditFacts.{InsertInserts, StampStamps, OutIsOut, insertRow, stampRow, bytesOf}
+use Rattle.store.proofs.PartLaws.{length-part}
+use Rattle.row.proofs.Exact.{cell-placed}
 use Rattle.leaf.proofs.Rowing.{endOf, rows-append}
 use Rattle.leaf.proofs.Chain.{Chain, chain-cells, chain-right, end-append, judged-leaf, Split, split-at}
 use Rattle.leaf.proofs.Placed.{place-split}
 use Rattle.leaf.proofs.RowFacts.{head-length, count-kept, rows-fill}
-use Rattle.leaf_edit.specs.Edit.{withCell, withStamp, without}
-use Rattle.leaf_edit.specs.EditFacts.{InsertInserts, StampStamps, OutIsOut, insertRow, stampRow, bytesOf}
 use Rattle.leaf_edit.proofs.Editing.{spliced-is}
 
 take-map : (f : Cell → Row) (i : ℕ) (cs : List Cell) → take i (map f cs) ≡ map f (take i cs)

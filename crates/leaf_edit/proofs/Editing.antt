@@ -8,9 +8,6 @@ use lib.ListN.{length, length-append, length-replicate}
 use borrow.Rule.Slice.PartMut.{midOf, putMid}
 use Rattle.store.specs.Le.{AreBytes, bytesLE, putAt}
 use Rattle.store.specs.Part.{part, put, zeros, pad, spliced}
-use Rattle.store.proofs.LeLaws.{length-bytesLE, one-byte}
-use Rattle.store.proofs.PartLaws.{length-part, part-add, part-first, part-peel}
-use Rattle.store.proofs.PutLaws.{put-part, put-nil, length-put, putAt-put, put-field, put-before, put-after-at, put-end, part-put-below, part-put-above, tail-back, splice-done}
 use Rattle.page.specs.Key.{flip, keyBytes}
 use Rattle.row.specs.Read.{cellAt}
 use Rattle.row.specs.Write.{stampLen, pointerLen, stampBytes, pointerBytes, cellSize, headBytes, cellBytes}
@@ -18,9 +15,13 @@ use Rattle.row.specs.declared.Stamp.{Stamp}
 use Rattle.row.specs.declared.Pointer.{Pointer}
 use Rattle.row.specs.declared.Cell.{Cell}
 use Rattle.row.specs.declared.read.CellRead.{CellRead}
+use Rattle.leaf_edit.specs.Steps.Edit.{gapped}
+use Rattle.leaf_edit.specs.Edit.{withStamp}
+use Rattle.store.proofs.LeLaws.{length-bytesLE, one-byte}
+use Rattle.store.proofs.PartLaws.{length-part, part-add, part-first, part-peel}
+use Rattle.store.proofs.PutLaws.{put-part, put-nil, length-put, putAt-put, put-field, put-before, put-after-at, put-end, part-put-below, part-put-above, tail-back, splice-done}
 use Rattle.row.proofs.Writing.{length-head, length-stamp}
 use Rattle.row.proofs.Exact.{read-is-written, cell-placed}
-use Rattle.leaf_edit.specs.Edit.{gapped, withStamp}
 
 -- ---- a gap
 

@@ -1,16 +1,11 @@
 -- Edits of a leaf page, each by its bytes (document 01, sections 2 and 5); laws say each again over rows.
 use mathlib.Core.List.{List, []}
 use Prim.Native.Nat.{ℕ, _+_, _-_}
-use Rattle.store.specs.Part.{part, put, zeros, pad, spliced}
+use Rattle.store.specs.Part.{part, pad, spliced}
 use Rattle.page.specs.Header.{withCount}
 use Rattle.row.specs.Write.{cellBytes}
 use Rattle.row.specs.declared.Stamp.{Stamp}
 use Rattle.row.specs.declared.Cell.{Cell}
-
--- the page, whose cells end at e, with a gap of m bytes in the place of those from a to b: what stands in the gap is
--- what stood there, until a writer fills it
-unfoldable pub gapped : (a b e m : ℕ) → List ℕ → List ℕ
-gapped a b e m pg = put (a + m + (e - b)) (zeros (4096 - (a + m + (e - b)))) (put (a + m) (part b (e - b) pg) pg)
 
 -- the page, whose n cells end at e, with a cell's bytes x put in at `at`
 unfoldable pub withCell : (at e n : ℕ) → List ℕ → List ℕ → List ℕ

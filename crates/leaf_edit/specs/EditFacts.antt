@@ -4,7 +4,7 @@ use mathlib.Core.Path.{_≡_}
 use mathlib.Core.List.{List, _∷_, _++_, map}
 use Prim.Native.Nat.{ℕ, _+_, _≤_}
 use lib.ListN.{length, take, drop}
-use Rattle.page.specs.Header.{cellCount}
+use Rattle.page.specs.Header.{cellCount, headerSize}
 use Rattle.row.specs.Write.{stampLen}
 use Rattle.row.specs.declared.Stamp.{Stamp}
 use Rattle.row.specs.declared.Cell.{Cell}
@@ -41,5 +41,5 @@ bytesOf pg cs = length (rowsBytes (map (rowOf pg) cs))
 abbrev pub OutIsOut : Type 0
 OutIsOut =
     (pg : List ℕ) (e : ℕ) (before out after : List Cell) → Sound pg e → cells pg ≡ before ++ (out ++ after)
-    → without (12 + bytesOf pg before) (12 + bytesOf pg before + bytesOf pg out) (length out) e (cellCount pg) pg
+    → without (headerSize + bytesOf pg before) (headerSize + bytesOf pg before + bytesOf pg out) (length out) e (cellCount pg) pg
     ≡ writeRows (map (rowOf pg) before ++ map (rowOf pg) after) pg

@@ -11,10 +11,6 @@ use lib.Seq.{set-append-left, set-set, set-comm, take-at, drop-at}
 use Rattle.store.specs.Pick.{pick}
 use Rattle.store.specs.Le.{AreBytes, bytesLE, putAt}
 use Rattle.store.specs.Part.{part, put, zeros, pad, spliced}
-use Rattle.store.proofs.LeLaws.{length-bytesLE, length-putAt, one-byte}
-use Rattle.store.proofs.PartLaws.{length-part, part-add, part-first, part-peel}
-use Rattle.store.proofs.SeamLaws.{part-left, spliced-before, length-pad}
-use Rattle.store.proofs.PutLaws.{length-put, length-spliced, put-field, put-after-at, part-put-above, put-part}
 use Rattle.page.specs.Header.{cellCount, withCount}
 use Rattle.page.specs.Key.{flip, keyBytes}
 use Rattle.row.specs.Read.{cellAt}
@@ -24,19 +20,24 @@ use Rattle.row.specs.declared.Stamp.{Stamp}
 use Rattle.row.specs.declared.Pointer.{Pointer}
 use Rattle.row.specs.declared.Cell.{Cell}
 use Rattle.row.specs.declared.read.CellRead.{CellRead}
-use Rattle.row.proofs.Writing.{stamp-len, pointer-len, length-head, length-cell}
-use Rattle.row.proofs.Exact.{written-is-read}
 use Rattle.mvcc.specs.Rules.{ofDeleter}
 use Rattle.mvcc.specs.Vacuum.{dropped, abortedDeleter, fate}
 use Rattle.mvcc.specs.declared.vacuum.Fate.{Fate}
 use Rattle.leaf.specs.Cells.{cells, cellsOf}
 use Rattle.leaf.specs.Rows.{Row, AllFit, rowOf, rows, rowSize, rowBytes, rowsBytes}
 use Rattle.leaf.specs.RowFacts.{Sound}
+use Rattle.leaf_edit.specs.Steps.Edit.{gapped}
+use Rattle.leaf_edit.specs.Edit.{without}
+use Rattle.leaf_vacuum.specs.Vacuum.{clearedRow, withoutStamp, sweep}
+use Rattle.store.proofs.LeLaws.{length-bytesLE, length-putAt, one-byte}
+use Rattle.store.proofs.PartLaws.{length-part, part-add, part-first, part-peel}
+use Rattle.store.proofs.SeamLaws.{part-left, spliced-before, length-pad}
+use Rattle.store.proofs.PutLaws.{length-put, length-spliced, put-field, put-after-at, part-put-above, put-part}
+use Rattle.row.proofs.Writing.{stamp-len, pointer-len, length-head, length-cell}
+use Rattle.row.proofs.Exact.{written-is-read}
 use Rattle.leaf.proofs.Rowing.{rows-cons, length-rows, rows-read, endOf}
 use Rattle.leaf.proofs.Chain.{split-at}
 use Rattle.leaf.proofs.RowFacts.{rows-fill}
-use Rattle.leaf_edit.specs.Edit.{gapped, without}
-use Rattle.leaf_vacuum.specs.Vacuum.{clearedRow, withoutStamp, sweep}
 use Rattle.leaf_edit.proofs.Editing.{gap-filled, gap-closed, bodyOf, cell-ends, cell-bytes}
 
 -- ---- a stamp taken off

@@ -10,20 +10,20 @@ use lib.Seq.{set-getD}
 use Rattle.store.specs.Pick.{pick}
 use Rattle.store.specs.Le.{AreBytes, leAt, putAt}
 use Rattle.store.specs.Part.{part, pad}
-use Rattle.store.proofs.LeLaws.{length-putAt}
-use Rattle.store.proofs.PartLaws.{putAt-part}
 use Rattle.page.specs.Header.{cellCount, withCount}
 use Rattle.row.specs.Read.{cellAt}
 use Rattle.row.specs.Exact.{cellOf}
 use Rattle.row.specs.declared.Cell.{Cell}
 use Rattle.row.specs.declared.Stamp.{Stamp}
-use Rattle.row.proofs.Writing.{length-cell}
 use Rattle.mvcc.specs.Vacuum.{fate}
 use Rattle.mvcc.specs.declared.vacuum.Fate.{Fate}
 use Rattle.leaf.specs.Rows.{Row, rowSize, rowBytes, rowsBytes, rows, writeRows}
-use Rattle.leaf.proofs.Rowing.{rows-cons, length-rows}
 use Rattle.leaf_vacuum.specs.Vacuum.{clearedRow, onFate, keptRows, droppedRows, changesRows, Swept, sweep}
 use Rattle.leaf_vacuum.specs.VacuumFacts.{VacuumSweeps}
+use Rattle.store.proofs.LeLaws.{length-putAt}
+use Rattle.store.proofs.PartLaws.{putAt-part}
+use Rattle.row.proofs.Writing.{length-cell}
+use Rattle.leaf.proofs.Rowing.{rows-cons, length-rows}
 use Rattle.leaf_vacuum.proofs.Sweeping.{Holds, written, size-row, count-append, count-pad, count-twice, cell-first, same-holds, dropped-page, cleared-page, cleared-stamped, sound-stands, sweep-done, sweep-same, sweep-dropped, sweep-cleared}
 
 module _ (st : ℕ → ℕ) (bound : ℕ) where

@@ -7,7 +7,7 @@ use Prim.Native.Nat.{ℕ}
 use lib.ListN.{length}
 use Rattle.store.specs.Pick.{pick}
 use Rattle.store.specs.Le.{AreBytes}
-use Rattle.page.specs.Header.{cellCount}
+use Rattle.page.specs.Header.{cellCount, headerSize}
 use Rattle.leaf.specs.Cells.{judgeLeaf}
 use Rattle.leaf.specs.Rows.{rows, writeRows}
 use Rattle.leaf.specs.declared.Judged.{Judged}
@@ -16,7 +16,7 @@ use Rattle.leaf_vacuum.specs.Vacuum.{keptRows, droppedRows, changesRows,
 abbrev pub VacuumSweeps : Type 0
 VacuumSweeps =
     (st : ℕ → ℕ) (bound e : ℕ) (pg : List ℕ) → AreBytes pg → length pg ≡ 4096 → judgeLeaf 0 pg ≡ Judged.Ok e
-    → sweep st bound (cellCount pg) 12 e (cellCount pg) 0 false pg
+    → sweep st bound (cellCount pg) headerSize e (cellCount pg) 0 false pg
     ≡ record {
       page = pick (changesRows st bound (rows pg)) (writeRows (keptRows st bound (rows pg)) pg) pg;
       told = record { dropped = droppedRows st bound (rows pg); changed = changesRows st bound (rows pg) };

@@ -6,7 +6,8 @@ ghost use lib.ListN.{length};
 ghost use Rattle.row.specs.Read.{cellAt};
 ghost use Rattle.row.specs.Write.{stampLen};
 ghost use Rattle.row.specs.declared.read.CellRead.{CellRead};
-ghost use Rattle.mvcc.specs.Lists.{lookup, Judged as StatusesJudged};
+ghost use Rattle.mvcc.specs.Snapshot.{lookup, statuses};
+ghost use Rattle.mvcc.specs.Steps.Snapshot.{StatusesJudged};
 ghost use Rattle.page.specs.Header.{cellCount};
 ghost use Rattle.leaf.specs.Cells.{judgeLeaf};
 ghost use Rattle.leaf.specs.declared.Judged.{Judged};
@@ -41,12 +42,12 @@ pub fn vacuum_leaf(
     e: usize,
     n: usize,
 ) -> Vacuumed
-    requires { ⌜ (length (now pg) ≡ 4096) × StatusesJudged (now ids) (now states) × (n ≡ cellCount (now pg)) × (n < 65536) × (judgeLeaf 0 (now pg) ≡ Judged.Ok e) ⌝ }
-    ensures { λ r. ⌜ (r ≡ sweep (lookup (now (ids .entry)) (now (states .entry))) bound n 12 e n 0 false (now (pg .entry)) .told)
-        × (now (pg .exit) ≡ sweep (lookup (now (ids .entry)) (now (states .entry))) bound n 12 e n 0 false (now (pg .entry)) .page) ⌝ }
+    requires { ⌜ (length (now pg) ≡ 4096) × StatusesJudged (statuses (now ids) (now states)) × (n ≡ cellCount (now pg)) × (n < 65536) × (judgeLeaf 0 (now pg) ≡ Judged.Ok e) ⌝ }
+    ensures { λ r. ⌜ (r ≡ sweep (lookup (statuses (now (ids .entry)) (now (states .entry)))) bound n 12 e n 0 false (now (pg .entry)) .told)
+        × (now (pg .exit) ≡ sweep (lookup (statuses (now (ids .entry)) (now (states .entry)))) bound n 12 e n 0 false (now (pg .entry)) .page) ⌝ }
 {
     let mut left = n;
-    let mut at = 12;
+    let mut at = page::HEADER_SIZE;
     let mut end = e;
     let mut count = n;
     let mut dropped = 0;

@@ -6,7 +6,7 @@ use Prim.Native.Nat.{ℕ, zero, suc, _<_}
 use Rattle.page.specs.Page.{page}
 use Rattle.inner.specs.Inner.{childAt}
 use Rattle.tree.specs.Chain.{Told, ok, ill}
-use Rattle.list_pages.specs.Numbers.{topOf, onTop, onTold, visitKids, visiting}
+use Rattle.list_pages.specs.Numbers.{topAt, onTop, onTold, visitKids, visiting}
 use Rattle.list_pages.specs.declared.Top.{Top}
 use Rattle.list_pages.proofs.Tops.{page-is, top-same}
 
@@ -37,16 +37,16 @@ module _ {L M : Type 0} (R : L → M → Type 0) where
       pub visit-alike : (k : ℕ) (up : List ℕ) (l : L) (m : M) (p : ℕ) → R l m → Alike R (visiting has₁ add₁ k used s up l p) (visiting has₂ add₂ k used s up m p)
       unfolding visiting
       visit-alike zero up l m p r =
-          rw (top-same 0 used s up (has₁ l p) (has₂ m p) p (same l m p r)) (by-top (topOf 0 used s up (has₂ m p) p) refl)
+          rw (top-same 0 used s up (has₁ l p) (has₂ m p) p (same l m p r)) (by-top (topAt 0 used s up (has₂ m p) p) refl)
         where
-          by-top : (t : Top) → t ≡ topOf 0 used s up (has₂ m p) p
+          by-top : (t : Top) → t ≡ topAt 0 used s up (has₂ m p) p
               → Alike R (onTop (λ j. ok (add₁ p l)) (ok l) (λ f. ill f) t) (onTop (λ j. ok (add₂ p m)) (ok m) (λ f. ill f) t)
           by-top (Top.Page j) e = kept l m p r (page-is 0 used s up (has₂ m p) p e refl .in-use)
           by-top Top.Skip e = r
           by-top (Top.Bad f) e = refl
       visit-alike (suc k) up l m p r =
           rw (top-same (suc k) used s up (has₁ l p) (has₂ m p) p (same l m p r))
-          (by-top (topOf (suc k) used s up (has₂ m p) p) refl
+          (by-top (topAt (suc k) used s up (has₂ m p) p) refl
           (kids-alike (visiting has₁ add₁ k used s (up ++ (p ∷ []))) (visiting has₂ add₂ k used s (up ++ (p ∷ []))) (λ a b q. visit-alike k (up ++ (p ∷ [])) a b q)))
         where
           kids₁ : ℕ → List ℕ → L → Told L
@@ -55,7 +55,7 @@ module _ {L M : Type 0} (R : L → M → Type 0) where
           kids₂ : ℕ → List ℕ → M → Told M
           kids₂ j pg b = visitKids (visiting has₂ add₂ k used s (up ++ (p ∷ []))) j pg b
 
-          by-top : (t : Top) → t ≡ topOf (suc k) used s up (has₂ m p) p → ((j : ℕ) (pg : List ℕ) (a : L) (b : M) → R a b → Alike R (kids₁ j pg a) (kids₂ j pg b))
+          by-top : (t : Top) → t ≡ topAt (suc k) used s up (has₂ m p) p → ((j : ℕ) (pg : List ℕ) (a : L) (b : M) → R a b → Alike R (kids₁ j pg a) (kids₂ j pg b))
               → Alike R (onTop (λ j. kids₁ j (page p s) (add₁ p l)) (ok l) (λ f. ill f) t) (onTop (λ j. kids₂ j (page p s) (add₂ p m)) (ok m) (λ f. ill f) t)
           by-top (Top.Page j) e h = h j (page p s) (add₁ p l) (add₂ p m) (kept l m p r (page-is (suc k) used s up (has₂ m p) p e refl .in-use))
           by-top Top.Skip e h = r

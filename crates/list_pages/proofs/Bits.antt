@@ -11,9 +11,9 @@ use lib.Dec.{eqb}
 use lib.ListN.{length, getD, length-replicate}
 use Rattle.store.specs.Le.{leAt, putAt}
 use Rattle.store.specs.Part.{zeros}
+use Rattle.list_pages.specs.Steps.Table.{power, bitAt, withBit}
 use Rattle.store.proofs.LeLaws.{length-putAt, leAt-putAt, leAt-putAt-below, leAt-putAt-above}
 use Rattle.store.proofs.PartLaws.{le-or-lt}
-use Rattle.list_pages.specs.Table.{power, bitAt, withBit}
 
 -- ---- the bits of a number
 

@@ -8,10 +8,10 @@ use borrow.Author.Tests.{eq-eqb, ne-eqb}
 use lib.ListN.{length, getD, set, length-map}
 use lib.Seq.{drop-cons, set-split}
 use Rattle.store.specs.Part.{part, put}
-use Rattle.store.proofs.PutLaws.{put-def, part-none, part-thru}
 use Rattle.mvcc.specs.Lists.{mem}
-use Rattle.list_pages.specs.Table.{lineOf, longer}
+use Rattle.list_pages.specs.Steps.Table.{lineOf, lineWith}
 use Rattle.list_pages.specs.declared.Line.{Line}
+use Rattle.store.proofs.PutLaws.{put-def, part-none, part-thru}
 
 module _ (p i n : ℕ) (s : List ℕ) where
   part-next : i < n → n ≤ length s → part i (n - i) s ≡ getD s i 0 ∷ part (i + 1) (n - (i + 1)) s
@@ -47,9 +47,9 @@ set-put a v s h =
     set-split s a v h ∙ sym (put-def a (v ∷ []) s ∙ rw e)
 
 pub longer-done : (line : Line) (p : ℕ) → line .len < length (line .pages)
-    → _≡_ {A = Line} (record { pages = set (line .pages) (line .len) p; len = line .len + 1 }) (longer line p)
+    → _≡_ {A = Line} (record { pages = set (line .pages) (line .len) p; len = line .len + 1 }) (lineWith line p)
 longer-done line p h = rw (set-put (line .len) p (line .pages) h)
 
-pub line-longer : (line r : Line) (p : ℕ) → line .len < length (line .pages) → r ≡ longer line p → lineOf r ≡ lineOf line ++ (p ∷ [])
+pub line-longer : (line r : Line) (p : ℕ) → line .len < length (line .pages) → r ≡ lineWith line p → lineOf r ≡ lineOf line ++ (p ∷ [])
 line-longer line r p h e =
     ap lineOf e ∙ part-thru (line .len) (p ∷ []) (line .pages) (omega arith) (line .len + 1) refl

@@ -7,9 +7,9 @@ use borrow.Author.Tests.{le-leb, lt-leb}
 use lib.ListN.{length}
 use Rattle.store.specs.Le.{bytesLE, putAt}
 use Rattle.store.specs.Part.{put, zeros}
-use Rattle.store.proofs.LeLaws.{putAt-bytes}
 use Rattle.row.specs.Write.{recordBytes}
-use Rattle.list_pages.specs.Table.{withBit, logOf, noted}
+use Rattle.list_pages.specs.Steps.Table.{withBit, logOf, noted}
+use Rattle.store.proofs.LeLaws.{putAt-bytes}
 
 -- a number over four zeros is its bytes
 number-bytes : (p : ℕ) → putAt 4 (zeros 4) 0 p ≡ bytesLE 4 p

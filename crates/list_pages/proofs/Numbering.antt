@@ -11,18 +11,19 @@ use lib.Dec.{eqb}
 use lib.ListN.{length, length-append, length-replicate}
 use Rattle.store.specs.Le.{bytesLE}
 use Rattle.store.specs.Part.{put, zeros}
-use Rattle.store.proofs.LeLaws.{length-bytesLE}
-use Rattle.store.proofs.PartLaws.{le-or-lt}
-use Rattle.store.proofs.PutLaws.{put-nil, length-put, put-after-at, put-end, part-none}
 use Rattle.row.specs.Write.{recordBytes}
 use Rattle.row.specs.declared.Fault.{Fault}
 use Rattle.mvcc.specs.Lists.{mem}
 use Rattle.tree.specs.Chain.{Told, ok, ill}
-use Rattle.list_records.specs.Listed.{written, fitted}
+use Rattle.list_records.specs.Listed.{fitted}
+use Rattle.call_answers.specs.Answer.{written}
 use Rattle.list_records.specs.declared.Listing.{Listing}
 use Rattle.list_pages.specs.Numbers.{numbersOf, numberRecords, numbersTree}
-use Rattle.list_pages.specs.Table.{bitAt, noted, Log, logOf, visitOf, Ended, capOf}
+use Rattle.list_pages.specs.Steps.Table.{bitAt, noted, Log, logOf, visitOf, LogEnds, capOf}
 use Rattle.list_pages.specs.declared.Numbered.{Numbered}
+use Rattle.store.proofs.LeLaws.{length-bytesLE}
+use Rattle.store.proofs.PartLaws.{le-or-lt}
+use Rattle.store.proofs.PutLaws.{put-nil, length-put, put-after-at, put-end, part-none}
 use Rattle.list_pages.proofs.Alike.{Alike, visit-alike}
 use Rattle.list_pages.proofs.Bits.{Table, bit-with, table-with, table-zero, bit-zero}
 use Rattle.list_pages.proofs.Visits.{told-bad, told-ok, visit-grows}
@@ -96,7 +97,7 @@ module _ (out₀ listed : List ℕ) (l : Log) (p : ℕ) (k : Kept out₀ listed 
 -- ---- the two walks
 
 module _ (used root : ℕ) (s : List ℕ) where
-  walks-alike : (n : ℕ) (out : List ℕ) → n ≡ 8192 → used ≤ 65536 → Alike (Kept out) (numbersOf used root s) (visitOf 3 used s [] (logOf 0 (zeros n) out) root)
+  walks-alike : (n : ℕ) (out : List ℕ) → n ≡ 8192 → used ≤ 65536 → Alike (Kept out) (numbersOf s used root) (visitOf 3 used s [] (logOf 0 (zeros n) out) root)
   unfolding numbersOf visitOf
   walks-alike n out e h =
       visit-alike (Kept out) (λ l p. mem p l) (λ p l. l ++ (p ∷ [])) (λ m q. bitAt (m .seen) q) noted used s (λ l m q k b. k .bits q (omega arith))
@@ -136,21 +137,21 @@ lent-none (x ∷ y) out e = absurd (omega arith)
 -- ---- the ways out of the listing; the first walk has an output of its own
 
 module _ (used root : ℕ) (s out : List ℕ) (few : used ≤ 65536) where
-  tree-bad : {f : Fault} → numbersOf used root s ≡ ill f → written (Listing.Bad f) out ≡ numbersTree used root s out
+  tree-bad : {f : Fault} → numbersOf s used root ≡ ill f → written (Listing.Bad f) out ≡ numbersTree s used root out
   unfolding numbersTree
   tree-bad e = rw e
 
-  tree-short : {l : List ℕ} → numbersOf used root s ≡ ok l → length out < length l * 10 → written Listing.Short out ≡ numbersTree used root s out
+  tree-short : {l : List ℕ} → numbersOf s used root ≡ ok l → length out < length l * 10 → written Listing.Short out ≡ numbersTree s used root out
   unfolding numbersTree fitted
   tree-short {l} e h = rw (e, lt-leb (length (numberRecords l)) (length out) (rw (length-records l) h))
 
-  tree-done : {l : List ℕ} → numbersOf used root s ≡ ok l → length l * 10 ≤ length out
-      → written (Listing.Done (length l * 10)) (put 0 (numberRecords l) out) ≡ numbersTree used root s out
+  tree-done : {l : List ℕ} → numbersOf s used root ≡ ok l → length l * 10 ≤ length out
+      → written (Listing.Done (length l * 10)) (put 0 (numberRecords l) out) ≡ numbersTree s used root out
   unfolding numbersTree fitted
   tree-done {l} e h = rw (e, length-records l, le-leb (length l * 10) (length out) h)
 
-  module _ (n : ℕ) (eight : n ≡ 8192) (first seen₁ out₁ : List ℕ) (r : Numbered) (ended : Ended r seen₁ out₁ (visitOf 3 used s [] (logOf 0 (zeros n) first) root)) where
-    pub list-bad : {f : Fault} → r ≡ Numbered.Bad f → written (Listing.Bad f) out ≡ numbersTree used root s out
+  module _ (n : ℕ) (eight : n ≡ 8192) (first seen₁ out₁ : List ℕ) (r : Numbered) (ended : LogEnds r seen₁ out₁ (visitOf 3 used s [] (logOf 0 (zeros n) first) root)) where
+    pub list-bad : {f : Fault} → r ≡ Numbered.Bad f → written (Listing.Bad f) out ≡ numbersTree s used root out
     list-bad e = tree-bad (fault-of first _ _ (walks-alike used root s n first eight few) (told-bad seen₁ out₁ r _ ended e))
 
     module _ (m : ℕ) (said : r ≡ Numbered.Ok m) where
@@ -158,17 +159,17 @@ module _ (used root : ℕ) (s out : List ℕ) (few : used ≤ 65536) where
       unfolding capOf
       list-few = omega (arith, visit-grows 3 used s [] (logOf 0 (zeros n) first) root (told-ok seen₁ out₁ r _ ended said))
 
-      found : (listed : List ℕ) × ((numbersOf used root s ≡ ok listed) × Kept first listed (logOf m seen₁ out₁))
+      found : (listed : List ℕ) × ((numbersOf s used root ≡ ok listed) × Kept first listed (logOf m seen₁ out₁))
       found = listed-of first _ _ (walks-alike used root s n first eight few) (told-ok seen₁ out₁ r _ ended said)
 
-      pub list-short : length out < m * 10 → written Listing.Short out ≡ numbersTree used root s out
+      pub list-short : length out < m * 10 → written Listing.Short out ≡ numbersTree s used root out
       list-short h = tree-short (found .1 .0) (omega (arith, found .1 .1 .number))
 
       -- the second walk, into the output itself
-      done : (seen₂ out₂ : List ℕ) (r₂ : Numbered) → Ended r₂ seen₂ out₂ (visitOf 3 used s [] (logOf 0 (zeros n) out) root) → m * 10 ≤ length out
-          → written (Listing.Done (m * 10)) out₂ ≡ numbersTree used root s out
+      done : (seen₂ out₂ : List ℕ) (r₂ : Numbered) → LogEnds r₂ seen₂ out₂ (visitOf 3 used s [] (logOf 0 (zeros n) out) root) → m * 10 ≤ length out
+          → written (Listing.Done (m * 10)) out₂ ≡ numbersTree s used root out
       done seen₂ out₂ (Numbered.Bad f) again h =
-          let e : numbersOf used root s ≡ ill f = fault-of out _ _ (walks-alike used root s n out eight few) (told-bad seen₂ out₂ (Numbered.Bad f) _ again refl) in
+          let e : numbersOf s used root ≡ ill f = fault-of out _ _ (walks-alike used root s n out eight few) (told-bad seen₂ out₂ (Numbered.Bad f) _ again refl) in
           let g = found .1 .0 in
           absurd (let z : _≡_ {A = ℕ} 0 1 = cc in omega arith)
       done seen₂ out₂ (Numbered.Ok k) again h =
@@ -177,6 +178,6 @@ module _ (used root : ℕ) (s out : List ℕ) (few : used ≤ 65536) where
           let l : length (w .0) * 10 ≤ length out = omega arith in
           rw (w .1 .1 .records l, c) (tree-done (w .1 .0) l)
 
-      pub list-done : (seen₂ out₂ : List ℕ) (r₂ : Numbered) {z o : List ℕ} → z ≡ zeros n → o ≡ out → Ended r₂ seen₂ out₂ (visitOf 3 used s [] (logOf 0 z o) root) → m * 10 ≤ length out
-          → written (Listing.Done (m * 10)) out₂ ≡ numbersTree used root s out
+      pub list-done : (seen₂ out₂ : List ℕ) (r₂ : Numbered) {z o : List ℕ} → z ≡ zeros n → o ≡ out → LogEnds r₂ seen₂ out₂ (visitOf 3 used s [] (logOf 0 z o) root) → m * 10 ≤ length out
+          → written (Listing.Done (m * 10)) out₂ ≡ numbersTree s used root out
       list-done seen₂ out₂ r₂ e q again = done seen₂ out₂ r₂ (rw (e, q) at again)

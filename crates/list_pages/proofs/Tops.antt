@@ -9,55 +9,56 @@ use native.Mathlib.Omega.{arith}
 use borrow.Author.Tests.{ltb-true, eqb-false, lt-ltb, le-ltb, eq-eqb, ne-eqb}
 use lib.Dec.{ltb, eqb}
 use Rattle.store.specs.Pick.{pick}
-use Rattle.store.proofs.PartLaws.{le-or-lt}
 use Rattle.page.specs.Page.{page}
 use Rattle.page.specs.Header.{nodeType}
 use Rattle.row.specs.declared.Fault.{Fault}
 use Rattle.mvcc.specs.Lists.{mem}
-use Rattle.inner.specs.Inner.{judgeInner, structural}
+use Rattle.inner.specs.Inner.{judgeInner}
+use Rattle.row.specs.Fault.{structural}
 use Rattle.inner.specs.declared.InnerJudged.{InnerJudged}
 use Rattle.tree.specs.Descend.{onInner}
-use Rattle.tree.proofs.Ways.{inner-is}
-use Rattle.list_pages.specs.Numbers.{topOf}
+use Rattle.list_pages.specs.Numbers.{topAt}
 use Rattle.list_pages.specs.declared.Top.{Top}
+use Rattle.store.proofs.PartLaws.{le-or-lt}
+use Rattle.tree.proofs.Ways.{inner-is}
 
 -- ---- the ways out
 
 module _ (k used : ℕ) (s up : List ℕ) (listed : Bool) (p : ℕ) where
-  pub top-unused : {f : Fault} → used ≤ p → f ≡ structural p → Top.Bad f ≡ topOf k used s up listed p
-  unfolding topOf
+  pub top-unused : {f : Fault} → used ≤ p → f ≡ structural p → Top.Bad f ≡ topAt k used s up listed p
+  unfolding topAt
   top-unused h e = rw (le-ltb p used h, e)
 
   module _ (in-use : p < used) {a : Bool} (above : a ≡ mem p up) where
-    pub top-above : {f : Fault} → a ≡ true → f ≡ structural p → Top.Bad f ≡ topOf k used s up listed p
-    unfolding topOf
+    pub top-above : {f : Fault} → a ≡ true → f ≡ structural p → Top.Bad f ≡ topAt k used s up listed p
+    unfolding topAt
     top-above t e = rw (lt-ltb p used in-use, sym above ∙ t, e)
 
     module _ (new : a ≡ false) {l : Bool} (known : l ≡ listed) where
-      pub top-skip : l ≡ true → Top.Skip ≡ topOf k used s up listed p
-      unfolding topOf
+      pub top-skip : l ≡ true → Top.Skip ≡ topAt k used s up listed p
+      unfolding topAt
       top-skip t = rw (lt-ltb p used in-use, sym above ∙ new, sym known ∙ t)
 
       module _ (unlisted : l ≡ false) {pg : List ℕ} {t : ℕ} (here : pg ≡ page p s) (kind : t ≡ nodeType pg) where
-        pub top-leaf : t ≡ 1 → Top.Page 0 ≡ topOf k used s up listed p
-        unfolding topOf
+        pub top-leaf : t ≡ 1 → Top.Page 0 ≡ topAt k used s up listed p
+        unfolding topAt
         top-leaf e = rw (lt-ltb p used in-use, sym above ∙ new, sym known ∙ unlisted, eq-eqb (nodeType (page p s)) 1 (rw (kind, here) at e))
 
         module _ (other : t ≡ 1 → ⊥) where
           not-leaf : eqb (nodeType (page p s)) 1 ≡ false
           not-leaf = ne-eqb (nodeType (page p s)) 1 (λ e. other (kind ∙ rw here e))
 
-          pub top-deep : {f : Fault} → k ≡ 0 → f ≡ structural p → Top.Bad f ≡ topOf k used s up listed p
-          unfolding topOf
+          pub top-deep : {f : Fault} → k ≡ 0 → f ≡ structural p → Top.Bad f ≡ topAt k used s up listed p
+          unfolding topAt
           top-deep z e = rw (lt-ltb p used in-use, sym above ∙ new, sym known ∙ unlisted, not-leaf, eq-eqb k 0 z, e)
 
           module _ (more : k ≡ 0 → ⊥) {r : InnerJudged} (judged : r ≡ judgeInner p pg) where
-            pub top-bad : {f : Fault} → r ≡ InnerJudged.Bad f → Top.Bad f ≡ topOf k used s up listed p
-            unfolding topOf
+            pub top-bad : {f : Fault} → r ≡ InnerJudged.Bad f → Top.Bad f ≡ topAt k used s up listed p
+            unfolding topAt
             top-bad e = rw (lt-ltb p used in-use, sym above ∙ new, sym known ∙ unlisted, not-leaf, ne-eqb k 0 more, ← here, sym judged ∙ e)
 
-            pub top-inner : {n : ℕ} → r ≡ InnerJudged.Ok n → Top.Page (n + 1) ≡ topOf k used s up listed p
-            unfolding topOf
+            pub top-inner : {n : ℕ} → r ≡ InnerJudged.Ok n → Top.Page (n + 1) ≡ topAt k used s up listed p
+            unfolding topAt
             top-inner e = rw (lt-ltb p used in-use, sym above ∙ new, sym known ∙ unlisted, not-leaf, ne-eqb k 0 more, ← here, sym judged ∙ e)
 
 -- ---- a page that is listed
@@ -99,8 +100,8 @@ module _ (k used : ℕ) (s : List ℕ) (p m : ℕ) where
   by-type true h e = let z : 0 ≡ m = cc in record { in-use = h; few = omega arith; deep = omega arith }
   by-type false h e = by-depth (eqb k 0) refl h e
 
-pub page-is : (k used : ℕ) (s up : List ℕ) (listed : Bool) (p : ℕ) {r : Top} {m : ℕ} → r ≡ topOf k used s up listed p → r ≡ Top.Page m → PageIs k used p m
-unfolding topOf
+pub page-is : (k used : ℕ) (s up : List ℕ) (listed : Bool) (p : ℕ) {r : Top} {m : ℕ} → r ≡ topAt k used s up listed p → r ≡ Top.Page m → PageIs k used p m
+unfolding topAt
 page-is k used s up listed p {r} {m} q e =
     by-use (ltb p used) refl (sym q ∙ e)
   where
@@ -118,6 +119,6 @@ page-is k used s up listed p {r} {m} q e =
     by-use false t u = absurd (bad-page u)
 
 -- what stands in the list of pages listed matters only for a page in use
-pub top-same : (k used : ℕ) (s up : List ℕ) (a b : Bool) (p : ℕ) → (p < used → a ≡ b) → topOf k used s up a p ≡ topOf k used s up b p
-unfolding topOf
+pub top-same : (k used : ℕ) (s up : List ℕ) (a b : Bool) (p : ℕ) → (p < used → a ≡ b) → topAt k used s up a p ≡ topAt k used s up b p
+unfolding topAt
 top-same k used s up a b p h = ⊎-elim (λ l. rw (le-ltb p used l)) (λ l. rw (h l)) (le-or-lt used p)

@@ -9,8 +9,8 @@ use Rattle.page.specs.Page.{page}
 use Rattle.row.specs.declared.Fault.{Fault}
 use Rattle.inner.specs.Inner.{childAt}
 use Rattle.tree.specs.Chain.{Told, ok, ill}
-use Rattle.list_pages.specs.Numbers.{topOf, onTop, onTold, visitKids, visiting}
-use Rattle.list_pages.specs.Table.{bitAt, noted, Log, logOf, visitOf, Ended, capOf}
+use Rattle.list_pages.specs.Numbers.{topAt, onTop, onTold, visitKids, visiting}
+use Rattle.list_pages.specs.Steps.Table.{bitAt, noted, Log, logOf, visitOf, LogEnds, capOf}
 use Rattle.list_pages.specs.declared.Numbered.{Numbered}
 use Rattle.list_pages.specs.declared.Top.{Top}
 use Rattle.list_pages.proofs.Tops.{PageIs, page-is}
@@ -18,18 +18,18 @@ use Rattle.list_pages.proofs.Tops.{PageIs, page-is}
 -- ---- how a walk ends
 
 module _ (seen out : List ℕ) (x : Told Log) where
-  pub ended-bad : {f : Fault} → ill f ≡ x → Ended (Numbered.Bad f) seen out x
+  pub ended-bad : {f : Fault} → ill f ≡ x → LogEnds (Numbered.Bad f) seen out x
   ended-bad e = rw (← e) refl
 
-  pub ended-ok : {n : ℕ} → ok (logOf n seen out) ≡ x → Ended (Numbered.Ok n) seen out x
+  pub ended-ok : {n : ℕ} → ok (logOf n seen out) ≡ x → LogEnds (Numbered.Ok n) seen out x
   ended-ok e = rw (← e) refl
 
-pub told-bad : (seen out : List ℕ) (r : Numbered) (x : Told Log) {f : Fault} → Ended r seen out x → r ≡ Numbered.Bad f → x ≡ ill f
+pub told-bad : (seen out : List ℕ) (r : Numbered) (x : Told Log) {f : Fault} → LogEnds r seen out x → r ≡ Numbered.Bad f → x ≡ ill f
 told-bad seen out (Numbered.Ok n) x h e = absurd (let z : _≡_ {A = ℕ} 0 1 = cc in omega arith)
 told-bad seen out (Numbered.Bad g) (ok l) h e = absurd h
 told-bad seen out (Numbered.Bad g) (ill f) h e = cc
 
-pub told-ok : (seen out : List ℕ) (r : Numbered) (x : Told Log) {n : ℕ} → Ended r seen out x → r ≡ Numbered.Ok n → x ≡ ok (logOf n seen out)
+pub told-ok : (seen out : List ℕ) (r : Numbered) (x : Told Log) {n : ℕ} → LogEnds r seen out x → r ≡ Numbered.Ok n → x ≡ ok (logOf n seen out)
 told-ok seen out (Numbered.Bad g) x h e = absurd (let z : _≡_ {A = ℕ} 0 1 = cc in omega arith)
 told-ok seen out (Numbered.Ok n) (ill f) h e = absurd h
 told-ok seen out (Numbered.Ok n) (ok l) h e = cc
@@ -41,17 +41,17 @@ unfoldable pub kidsOf : (k used : ℕ) → List ℕ → (up : List ℕ) → (j :
 kidsOf k used s up j pg l = visitKids (visiting (λ m q. bitAt (m .seen) q) noted k used s up) j pg l
 
 module _ (used : ℕ) (s up : List ℕ) (l : Log) (p : ℕ) where
-  pub visit-bad : (k : ℕ) {t : Top} {f : Fault} → t ≡ topOf k used s up (bitAt (l .seen) p) p → t ≡ Top.Bad f → ill f ≡ visitOf k used s up l p
+  pub visit-bad : (k : ℕ) {t : Top} {f : Fault} → t ≡ topAt k used s up (bitAt (l .seen) p) p → t ≡ Top.Bad f → ill f ≡ visitOf k used s up l p
   unfolding visitOf visiting
   visit-bad zero e q = rw (sym e ∙ q)
   visit-bad (suc k) e q = rw (sym e ∙ q)
 
-  pub visit-skip : (k : ℕ) {t : Top} → t ≡ topOf k used s up (bitAt (l .seen) p) p → t ≡ Top.Skip → ok l ≡ visitOf k used s up l p
+  pub visit-skip : (k : ℕ) {t : Top} → t ≡ topAt k used s up (bitAt (l .seen) p) p → t ≡ Top.Skip → ok l ≡ visitOf k used s up l p
   unfolding visitOf visiting
   visit-skip zero e q = rw (sym e ∙ q)
   visit-skip (suc k) e q = rw (sym e ∙ q)
 
-  pub visit-page : (k : ℕ) {t : Top} {m : ℕ} {l₁ : Log} → t ≡ topOf k used s up (bitAt (l .seen) p) p → t ≡ Top.Page m → l₁ ≡ noted p l
+  pub visit-page : (k : ℕ) {t : Top} {m : ℕ} {l₁ : Log} → t ≡ topAt k used s up (bitAt (l .seen) p) p → t ≡ Top.Page m → l₁ ≡ noted p l
       → kidsOf (k - 1) used s (up ++ (p ∷ [])) m (page p s) l₁ ≡ visitOf k used s up l p
   unfolding visitOf visiting kidsOf visitKids
   visit-page zero {t} {m} e q n =
@@ -110,16 +110,16 @@ kids-count f c h (suc j) pg l = by-told (f l (childAt pg j)) (h l (childAt pg j)
 
 visit-count : (k used : ℕ) (s up : List ℕ) (l : Log) (p : ℕ) → toldCount (visiting (λ m q. bitAt (m .seen) q) noted k used s up l p) ≤ l .count + capOf k
 unfolding visiting capOf
-visit-count zero used s up l p = by-top (topOf 0 used s up (bitAt (l .seen) p) p)
+visit-count zero used s up l p = by-top (topAt 0 used s up (bitAt (l .seen) p) p)
   where
     by-top : (t : Top) → toldCount (onTop (λ m. ok (noted p l)) (ok l) (λ f. ill f) t) ≤ l .count + 1
     by-top (Top.Page m) = omega (arith, noted-count p l)
     by-top Top.Skip = omega arith
     by-top (Top.Bad f) = zero-le
 visit-count (suc k) used s up l p =
-    by-top (topOf (suc k) used s up (bitAt (l .seen) p) p) refl (kids-count (visiting (λ m q. bitAt (m .seen) q) noted k used s (up ++ (p ∷ []))) (capOf k) (λ m q. visit-count k used s (up ++ (p ∷ [])) m q))
+    by-top (topAt (suc k) used s up (bitAt (l .seen) p) p) refl (kids-count (visiting (λ m q. bitAt (m .seen) q) noted k used s (up ++ (p ∷ []))) (capOf k) (λ m q. visit-count k used s (up ++ (p ∷ [])) m q))
   where
-    by-top : (t : Top) → t ≡ topOf (suc k) used s up (bitAt (l .seen) p) p
+    by-top : (t : Top) → t ≡ topAt (suc k) used s up (bitAt (l .seen) p) p
         → ((j : ℕ) (pg : List ℕ) (m : Log) → toldCount (visitKids (visiting (λ m q. bitAt (m .seen) q) noted k used s (up ++ (p ∷ []))) j pg m) ≤ m .count + j * capOf k)
         → toldCount (onTop (λ m. visitKids (visiting (λ m q. bitAt (m .seen) q) noted k used s (up ++ (p ∷ []))) m (page p s) (noted p l)) (ok l) (λ f. ill f) t)
         ≤ l .count + (1 + 511 * capOf k)

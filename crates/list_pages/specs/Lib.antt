@@ -1,3 +1,3 @@
 -- What a reader of the contracts of `list_pages` has to believe.
 pub mod Numbers
-pub mod Table
+pub mod Steps

@@ -8,25 +8,27 @@ use lib.Dec.{ltb, eqb}
 use Rattle.store.specs.Le.{bytesLE}
 use Rattle.store.specs.Pick.{pick}
 use Rattle.page.specs.Page.{page}
-use Rattle.page.specs.Header.{nodeType}
+use Rattle.page.specs.Header.{nodeType, nodeLeaf}
 use Rattle.row.specs.Write.{recordBytes}
 use Rattle.row.specs.declared.Fault.{Fault}
 use Rattle.mvcc.specs.Lists.{mem}
-use Rattle.inner.specs.Inner.{childAt, judgeInner, structural}
+use Rattle.inner.specs.Inner.{childAt, judgeInner}
+use Rattle.row.specs.Fault.{structural}
 use Rattle.tree.specs.Descend.{onInner}
 use Rattle.tree.specs.Chain.{Told, ok, ill}
-use Rattle.list_records.specs.Listed.{Written, written, fitted}
+use Rattle.list_records.specs.Listed.{fitted}
+use Rattle.call_answers.specs.Answer.{written, Written}
 use Rattle.list_records.specs.declared.Listing.{Listing}
 use Rattle.list_pages.specs.declared.Top.{Top}
 
 -- what is to be done with page p, k levels above the last, under the pages `up`: a fault; nothing, if it is listed; or it
 -- is listed, and so many children are visited. Own ancestor comes before already listed.
-unfoldable pub topOf : (k used : ℕ) → List ℕ → (up : List ℕ) → (listed : Bool) → (p : ℕ) → Top
-topOf k used s up listed p =
+unfoldable pub topAt : (k used : ℕ) → List ℕ → (up : List ℕ) → (listed : Bool) → (p : ℕ) → Top
+topAt k used s up listed p =
     pick (ltb p used)
     (pick (mem p up) (Top.Bad (structural p))
     (pick listed Top.Skip
-    (pick (eqb (nodeType (page p s)) 1) (Top.Page 0)
+    (pick (eqb (nodeType (page p s)) nodeLeaf) (Top.Page 0)
     (pick (eqb k 0) (Top.Bad (structural p)) (onInner (λ n. Top.Page (n + 1)) (λ f. Top.Bad f) (judgeInner p (page p s)))))))
     (Top.Bad (structural p))
 
@@ -46,18 +48,18 @@ visitKids f (suc j) pg l = onTold (λ m. visitKids f j pg m) (λ e. ill e) (f l 
 
 -- the walk from page p, k levels above the last, on a log: whether it has a page, and how a page is added
 unfoldable pub visiting : {L : Type 0} → (L → ℕ → Bool) → (ℕ → L → L) → (k used : ℕ) → List ℕ → (up : List ℕ) → L → (p : ℕ) → Told L
-visiting has add zero used s up l p = onTop (λ m. ok (add p l)) (ok l) (λ f. ill f) (topOf 0 used s up (has l p) p)
+visiting has add zero used s up l p = onTop (λ m. ok (add p l)) (ok l) (λ f. ill f) (topAt 0 used s up (has l p) p)
 visiting has add (suc k) used s up l p =
-    onTop (λ m. visitKids (visiting has add k used s (up ++ (p ∷ []))) m (page p s) (add p l)) (ok l) (λ f. ill f) (topOf (suc k) used s up (has l p) p)
+    onTop (λ m. visitKids (visiting has add k used s (up ++ (p ∷ []))) m (page p s) (add p l)) (ok l) (λ f. ill f) (topAt (suc k) used s up (has l p) p)
 
 -- the log is the list of page numbers
-unfoldable pub numbersOf : (used root : ℕ) → List ℕ → Told (List ℕ)
-numbersOf used root s = visiting (λ l p. mem p l) (λ p l. l ++ (p ∷ [])) 3 used s [] [] root
+unfoldable pub numbersOf : List ℕ → (used root : ℕ) → Told (List ℕ)
+numbersOf s used root = visiting (λ l p. mem p l) (λ p l. l ++ (p ∷ [])) 3 used s [] [] root
 
 -- "Page numbers are listed alike, kind 5 and the u32"
 unfoldable pub numberRecords : List ℕ → List ℕ
 numberRecords [] = []
 numberRecords (p ∷ ps) = recordBytes 5 (bytesLE 4 p) ++ numberRecords ps
 
-unfoldable pub numbersTree : (used root : ℕ) → (s out : List ℕ) → Written Listing
-numbersTree used root s out = onTold (λ l. fitted (numberRecords l) out) (λ f. written (Listing.Bad f) out) (numbersOf used root s)
+unfoldable pub numbersTree : (s : List ℕ) → (used root : ℕ) → (out : List ℕ) → Written Listing
+numbersTree s used root out = onTold (λ l. fitted (numberRecords l) out) (λ f. written (Listing.Bad f) out) (numbersOf s used root)

@@ -5,11 +5,10 @@ ghost use mathlib.Core.Path.{_≡_};
 ghost use mathlib.Core.List.{[]};
 ghost use Prim.Native.Nat.{_+_, _*_, _/_, _%_, _≤_, _<_};
 ghost use lib.ListN.{length};
-ghost use Rattle.store.specs.Part.{part};
 ghost use Rattle.mvcc.specs.Lists.{mem};
-ghost use Rattle.list_records.specs.Listed.{written};
-ghost use Rattle.list_pages.specs.Numbers.{topOf, numbersTree};
-ghost use Rattle.list_pages.specs.Table.{power, bitAt, withBit, noted, lineOf, longer, capOf, visitOf, Ended, logOf};
+ghost use Rattle.call_answers.specs.Answer.{written};
+ghost use Rattle.list_pages.specs.Numbers.{topAt, numbersTree};
+ghost use Rattle.list_pages.specs.Steps.Table.{power, bitAt, withBit, noted, lineOf, lineWith, capOf, visitOf, LogEnds, logOf};
 use inner::InnerJudged;
 use list_records::Listing;
 use row::Fault;
@@ -90,7 +89,7 @@ fn is_above(line: Line, p: u32) -> bool
 
 fn longer_line(line: Line, p: u32) -> Line
     requires { ⌜ line .len < 4 ⌝ }
-    ensures { λ r. ⌜ r ≡ longer line p ⌝ }
+    ensures { λ r. ⌜ r ≡ lineWith line p ⌝ }
 {
     let mut next = line;
     let at = line.len;
@@ -101,9 +100,9 @@ fn longer_line(line: Line, p: u32) -> Line
 
 fn judge_top(pool: &[u8], seen: &[u8], used: u32, below: usize, line: Line, p: u32) -> Top
     requires { ⌜ (used * 4096 ≤ length (now pool)) × (used ≤ 65536) × (length (now seen) ≡ 8192) × (line .len ≤ 4) ⌝ }
-    ensures { λ r. ⌜ r ≡ topOf below used (now (pool .entry)) (lineOf line) (bitAt (now (seen .entry)) p) p ⌝ }
+    ensures { λ r. ⌜ r ≡ topAt below used (now (pool .entry)) (lineOf line) (bitAt (now (seen .entry)) p) p ⌝ }
 {
-    let bad = leaf::structural_fault(p);
+    let bad = row::structural_fault(p);
     if used <= p {
         return Top::Bad(bad);
     }
@@ -114,7 +113,7 @@ fn judge_top(pool: &[u8], seen: &[u8], used: u32, below: usize, line: Line, p: u
         return Top::Skip;
     }
     let pg = page::pool::page_of(pool, p);
-    if page::get_node_type(pg) == 1 {
+    if page::get_node_type(pg) == page::NODE_LEAF {
         return Top::Page(0);
     }
     if below == 0 {
@@ -151,7 +150,7 @@ fn visit(
     p: u32,
 ) -> Numbered
     requires { ⌜ (used * 4096 ≤ length (now pool)) × (used ≤ 65536) × (length (now seen) ≡ 8192) × (line .len + below ≡ 3) × (count + capOf below ≤ 4294967296) ⌝ }
-    ensures { λ r. ⌜ Ended r (now (seen .exit)) (now (out .exit)) (visitOf below used (now (pool .entry)) (lineOf line) (logOf count (now (seen .entry)) (now (out .entry))) p) ⌝ }
+    ensures { λ r. ⌜ LogEnds r (now (seen .exit)) (now (out .exit)) (visitOf below used (now (pool .entry)) (lineOf line) (logOf count (now (seen .entry)) (now (out .entry))) p) ⌝ }
 {
     let kids = match judge_top(pool, seen, used, below, line, p) {
         Top::Bad(f) => return Numbered::Bad(f),
@@ -184,7 +183,7 @@ fn visit(
 // The tree's pages from the root, into the table and the output.
 fn walk(pool: &[u8], seen: &mut [u8], out: &mut [u8], used: u32, root: u32) -> Numbered
     requires { ⌜ (used * 4096 ≤ length (now pool)) × (used ≤ 65536) × (length (now seen) ≡ 8192) ⌝ }
-    ensures { λ r. ⌜ Ended r (now (seen .exit)) (now (out .exit)) (visitOf 3 used (now (pool .entry)) [] (logOf 0 (now (seen .entry)) (now (out .entry))) root) ⌝ }
+    ensures { λ r. ⌜ LogEnds r (now (seen .exit)) (now (out .exit)) (visitOf 3 used (now (pool .entry)) [] (logOf 0 (now (seen .entry)) (now (out .entry))) root) ⌝ }
 {
     let line = Line {
         pages: [0u32; 4],
@@ -195,7 +194,7 @@ fn walk(pool: &[u8], seen: &mut [u8], out: &mut [u8], used: u32, root: u32) -> N
 
 pub fn list_numbers(pool: &[u8], out: &mut [u8], used: u32, root: u32) -> Listing
     requires { ⌜ (used * 4096 ≤ length (now pool)) × (used ≤ 65536) ⌝ }
-    ensures { λ r. ⌜ written r (now (out .exit)) ≡ numbersTree used root (now (pool .entry)) (now (out .entry)) ⌝ }
+    ensures { λ r. ⌜ written r (now (out .exit)) ≡ numbersTree (now (pool .entry)) used root (now (out .entry)) ⌝ }
 {
     let mut seen = [0u8; TABLE];
     match walk(pool, &mut seen, &mut out[0..0], used, root) {

@@ -6,9 +6,9 @@ use native.Mathlib.Omega.{arith}
 use lib.ListN.{length, length-append}
 use Rattle.store.specs.Le.{bytesLE, putAt}
 use Rattle.store.specs.Part.{put}
+use Rattle.row.specs.Write.{recordBytes}
 use Rattle.store.proofs.LeLaws.{length-bytesLE}
 use Rattle.store.proofs.PutLaws.{putAt-put, put-field, put-after-at}
-use Rattle.row.specs.Write.{recordBytes}
 
 pub record-written : (o kind : ℕ) (x s : List ℕ) {s₁ s₂ r : List ℕ} → o + (6 + length x) ≤ length s → s₁ ≡ putAt 4 s o (length x + 2) → s₂ ≡ putAt 2 s₁ (o + 4) kind
     → r ≡ put (o + 6) x s₂

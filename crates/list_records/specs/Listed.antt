@@ -7,14 +7,7 @@ use lib.ListN.{length}
 use Rattle.store.specs.Pick.{pick}
 use Rattle.store.specs.Part.{put}
 use Rattle.list_records.specs.declared.Listing.{Listing}
-
--- an answer, and the output after it
-pub record Written (A : Type 0) : Type 0 where
-  pub answer : A
-  pub output : List ℕ
-
-abbrev pub written : {A : Type 0} → A → List ℕ → Written A
-written a out = record { answer = a; output = out }
+use Rattle.call_answers.specs.Answer.{Written, written}
 
 -- the listing x into that output
 unfoldable pub fitted : (x out : List ℕ) → Written Listing

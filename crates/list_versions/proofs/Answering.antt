@@ -13,9 +13,11 @@ use Rattle.tree.specs.Descend.{descendOf}
 use Rattle.tree.specs.declared.Route.{Route}
 use Rattle.tree.specs.declared.Descent.{Descent}
 use Rattle.list_records.specs.Records.{records}
-use Rattle.list_records.specs.Listed.{Written, written, fitted}
+use Rattle.list_records.specs.Listed.{fitted}
+use Rattle.call_answers.specs.Answer.{written, Written}
 use Rattle.list_records.specs.declared.Listing.{Listing}
-use Rattle.list_versions.specs.Gather.{rowsAlong, rowsTold, IsOk, sizeTold}
+use Rattle.list_versions.specs.Gather.{rowsAlong}
+use Rattle.list_versions.specs.Steps.Gather.{rowsTold, IsOk, sizeTold}
 use Rattle.list_versions.specs.Listed.{listedRows, routeOf, listTree}
 use Rattle.list_versions.specs.declared.Which.{Which}
 use Rattle.list_versions.specs.declared.ChainSize.{ChainSize}
@@ -47,10 +49,10 @@ module _ (which : Which) (used root : ℕ) (s out : List ℕ) {route : Route} {d
   down : descendOf 3 (routeOf which) used root s ≡ d
   down = sym (way ∙ rw by-route)
 
-  pub tree-bad : {f : Fault} → d ≡ Descent.Bad f → written (Listing.Bad f) out ≡ listTree which used root s out
+  pub tree-bad : {f : Fault} → d ≡ Descent.Bad f → written (Listing.Bad f) out ≡ listTree s used root which out
   unfolding listTree
   tree-bad e = rw (down, e)
 
-  pub tree-leaf : {p : ℕ} {w : Written Listing} → d ≡ Descent.Leaf p → w ≡ listedRows (rowsAlong which used p s) out → w ≡ listTree which used root s out
+  pub tree-leaf : {p : ℕ} {w : Written Listing} → d ≡ Descent.Leaf p → w ≡ listedRows (rowsAlong s used p which) out → w ≡ listTree s used root which out
   unfolding listTree
   tree-leaf e q = q ∙ rw (down, e)

@@ -10,24 +10,25 @@ use lib.ListN.{length, length-append}
 use Rattle.store.specs.Pick.{pick}
 use Rattle.store.specs.Le.{AreBytes}
 use Rattle.store.specs.Part.{put}
-use Rattle.store.proofs.PutLaws.{put-nil, length-put, put-after-at}
 use Rattle.page.specs.Page.{page}
 use Rattle.page.specs.Header.{nextLeaf}
 use Rattle.row.specs.declared.Fault.{Fault}
-use Rattle.inner.specs.Inner.{structural}
+use Rattle.row.specs.Fault.{structural}
 use Rattle.leaf.specs.Cells.{cellsOf, cells, judgeLeaf, onJudged}
 use Rattle.leaf.specs.Rows.{Row, rowsOf, rows}
 use Rattle.leaf.specs.declared.Judged.{Judged}
 use Rattle.leaf.specs.declared.find.Run.{Run}
 use Rattle.leaf.specs.declared.find.LeafRun.{LeafRun}
-use Rattle.leaf.proofs.Bytes.{bytes-page}
 use Rattle.tree.specs.Chain.{stop, go, broken, Told, ok, ill, onSeen, along}
-use Rattle.tree.proofs.Ways.{along-again, along-unused, along-bad, along-last, along-end, along-on}
 use Rattle.list_records.specs.Records.{records}
-use Rattle.list_versions.specs.Gather.{wanted, ends, lookRows, rowsAlong, rowsTold, IsOk, sizeTold, runOf, againOf}
+use Rattle.list_versions.specs.Gather.{wanted, ends, lookRows, rowsAlong}
+use Rattle.list_versions.specs.Steps.Gather.{rowsTold, IsOk, sizeTold, runOf, againOf}
 use Rattle.list_versions.specs.declared.Which.{Which}
 use Rattle.list_versions.specs.declared.ChainSize.{ChainSize}
 use Rattle.list_versions.specs.declared.Again.{Again}
+use Rattle.store.proofs.PutLaws.{put-nil, length-put, put-after-at}
+use Rattle.leaf.proofs.Bytes.{bytes-page}
+use Rattle.tree.proofs.Ways.{along-again, along-unused, along-bad, along-last, along-end, along-on}
 use Rattle.list_versions.proofs.Recorded.{records-append}
 use Rattle.list_versions.proofs.Running.{Measures, Gives, run-broken, run-told, gives-again}
 
@@ -56,16 +57,16 @@ unfolding records
 measured-start which used first s = record { got = []; same = refl; size-is = refl; room = omega arith }
 
 module _ (which : Which) (used first : ℕ) (s : List ℕ) (p size left : ℕ) (h : Measured which used first s p size left) where
-  pub measured-again : {f : Fault} → left ≤ 0 → f ≡ structural p → ChainSize.Bad f ≡ sizeTold (rowsAlong which used first s)
+  pub measured-again : {f : Fault} → left ≤ 0 → f ≡ structural p → ChainSize.Bad f ≡ sizeTold (rowsAlong s used first which)
   unfolding rowsAlong
   measured-again z e = ap sizeTold (along-again (lookRows which) used (h .got) p s left z e ∙ h .same)
 
-  pub measured-unused : {f : Fault} → 0 < left → used ≤ p → f ≡ structural p → ChainSize.Bad f ≡ sizeTold (rowsAlong which used first s)
+  pub measured-unused : {f : Fault} → 0 < left → used ≤ p → f ≡ structural p → ChainSize.Bad f ≡ sizeTold (rowsAlong s used first which)
   unfolding rowsAlong
   measured-unused z l e = ap sizeTold (along-unused (lookRows which) used (h .got) p s left z l e ∙ h .same)
 
   module _ (z : 0 < left) (l : p < used) (B : AreBytes s) {pg : List ℕ} (here : pg ≡ page p s) (len : length pg ≡ 4096) {r : LeafRun} (said : r ≡ runOf which p pg) where
-    pub measured-bad : {f : Fault} → r ≡ LeafRun.Bad f → ChainSize.Bad f ≡ sizeTold (rowsAlong which used first s)
+    pub measured-bad : {f : Fault} → r ≡ LeafRun.Bad f → ChainSize.Bad f ≡ sizeTold (rowsAlong s used first which)
     unfolding rowsAlong
     measured-bad u = ap sizeTold (along-bad (lookRows which) used (h .got) p s l here left z (run-broken which p pg (h .got) said u) ∙ h .same)
 
@@ -79,12 +80,12 @@ module _ (which : Which) (used first : ℕ) (s : List ℕ) (p size left : ℕ) (
       more : size + (run .to - run .from) + 6 * run .count ≡ length (records (h .got ++ wanted which (rows pg)))
       more = omega (arith, h .size-is, told .0 .size, length-more (h .got) (wanted which (rows pg)))
 
-      pub measured-last : last ≡ true → ChainSize.Ok (size + (run .to - run .from) + 6 * run .count) ≡ sizeTold (rowsAlong which used first s)
+      pub measured-last : last ≡ true → ChainSize.Ok (size + (run .to - run .from) + 6 * run .count) ≡ sizeTold (rowsAlong s used first which)
       unfolding rowsAlong
       measured-last t = rw more (ap sizeTold (along-last (lookRows which) used (h .got) p s l here left z (seen-last (h .got) (told .1) t) ∙ h .same))
 
       module _ {n : ℕ} (t : last ≡ false) (next : n ≡ nextLeaf pg) where
-        pub measured-end : n ≡ 0 → ChainSize.Ok (size + (run .to - run .from) + 6 * run .count) ≡ sizeTold (rowsAlong which used first s)
+        pub measured-end : n ≡ 0 → ChainSize.Ok (size + (run .to - run .from) + 6 * run .count) ≡ sizeTold (rowsAlong s used first which)
         unfolding rowsAlong
         measured-end q = rw more (ap sizeTold (along-end (lookRows which) used (h .got) p s l here left z (seen-more (h .got) (told .1) t) next q ∙ h .same))
 
@@ -161,10 +162,10 @@ copied-start which used first s out = record { got = []; same = refl; end-is = r
 not-both : {rs : List Row} {f : Fault} {t : Told (List Row)} → ill f ≡ t → t ≡ ok rs → ⊥
 not-both e q = let z : _≡_ {A = ℕ} 0 1 = cc in omega arith
 
-module _ (which : Which) (used first : ℕ) (s out₀ out : List ℕ) (p o left : ℕ) (h : Copied which used first s out₀ out p o left) (good : IsOk (rowsAlong which used first s))
-    (fits : length (records (rowsTold (rowsAlong which used first s))) ≤ length out₀) where
+module _ (which : Which) (used first : ℕ) (s out₀ out : List ℕ) (p o left : ℕ) (h : Copied which used first s out₀ out p o left) (good : IsOk (rowsAlong s used first which))
+    (fits : length (records (rowsTold (rowsAlong s used first which))) ≤ length out₀) where
   abbrev all : List Row
-  all = rowsTold (rowsAlong which used first s)
+  all = rowsTold (rowsAlong s used first which)
 
   walks : along (lookRows which) used left (h .got) p s ≡ ok all
   unfolding rowsAlong
@@ -197,11 +198,11 @@ module _ (which : Which) (used first : ℕ) (s out₀ out : List ℕ) (p o left 
       finished : ok (h .got ++ wanted which (rows pg)) ≡ along (lookRows which) used left (h .got) p s → out₁ ≡ put 0 (records all) out₀
       finished e = joined ∙ ap (λ (rs : List Row). put 0 (records rs) out₀) (ap rowsTold (e ∙ walks))
 
-      pub copied-last : a .last ≡ true → out₁ ≡ put 0 (records (rowsTold (rowsAlong which used first s))) out₀
+      pub copied-last : a .last ≡ true → out₁ ≡ put 0 (records (rowsTold (rowsAlong s used first which))) out₀
       copied-last t = finished (along-last (lookRows which) used (h .got) p s l here left z (seen-last (h .got) gave t))
 
       module _ {n : ℕ} (t : a .last ≡ false) (next : n ≡ nextLeaf pg) where
-        pub copied-end : n ≡ 0 → out₁ ≡ put 0 (records (rowsTold (rowsAlong which used first s))) out₀
+        pub copied-end : n ≡ 0 → out₁ ≡ put 0 (records (rowsTold (rowsAlong s used first which))) out₀
         copied-end q = finished (along-end (lookRows which) used (h .got) p s l here left z (seen-more (h .got) gave t) next q)
 
         pub copied-on : {o₁ : ℕ} → (n ≡ 0 → ⊥) → o₁ ≡ o + length (records (rowsOf (a .count) (a .from) pg)) → Copied which used first s out₀ out₁ n o₁ (left - 1)

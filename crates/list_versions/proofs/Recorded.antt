@@ -7,21 +7,21 @@ use native.Mathlib.Omega.{arith}
 use lib.ListN.{length, length-append}
 use Rattle.store.specs.Le.{AreBytes, leAt, bytesLE}
 use Rattle.store.specs.Part.{part, put}
-use Rattle.store.proofs.LeLaws.{length-bytesLE}
-use Rattle.store.proofs.PartLaws.{length-part, part-peel, leAt-first}
-use Rattle.store.proofs.PutLaws.{put-after-at}
 use Rattle.page.specs.Key.{flip, keyBytes}
 use Rattle.row.specs.Read.{cellAt}
 use Rattle.row.specs.Write.{stampLen, pointerLen, stampBytes, pointerBytes, cellSize, recordBytes}
 use Rattle.row.specs.declared.Cell.{Cell}
 use Rattle.row.specs.declared.read.CellRead.{CellRead}
-use Rattle.row.proofs.Writing.{stamp-len, pointer-len}
-use Rattle.row.proofs.Exact.{cell-flat, read-is-written, cell-placed}
 use Rattle.leaf.specs.Cells.{onCell, cellsOf}
 use Rattle.leaf.specs.Rows.{Row, rowOf, rowsOf, rowBytes}
+use Rattle.list_records.specs.Records.{records}
+use Rattle.store.proofs.LeLaws.{length-bytesLE}
+use Rattle.store.proofs.PartLaws.{length-part, part-peel, leAt-first}
+use Rattle.store.proofs.PutLaws.{put-after-at}
+use Rattle.row.proofs.Writing.{stamp-len, pointer-len}
+use Rattle.row.proofs.Exact.{cell-flat, read-is-written, cell-placed}
 use Rattle.leaf.proofs.Rowing.{endOf}
 use Rattle.leaf.proofs.Chain.{Chain}
-use Rattle.list_records.specs.Records.{records}
 
 pub records-append : (xs ys : List Row) → records (xs ++ ys) ≡ records xs ++ records ys
 unfolding records

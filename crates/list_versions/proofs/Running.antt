@@ -14,21 +14,22 @@ use Rattle.store.specs.Le.{AreBytes}
 use Rattle.page.specs.Header.{cellCount}
 use Rattle.row.specs.declared.Cell.{Cell}
 use Rattle.row.specs.declared.Fault.{Fault}
-use Rattle.row.proofs.Exact.{cell-placed}
 use Rattle.leaf.specs.Cells.{cellsOf, cells, foldCells, judgeLeaf, onJudged}
 use Rattle.leaf.specs.Find.{running, runLeaf}
 use Rattle.leaf.specs.Rows.{Row, rowOf, rowsOf, rows}
 use Rattle.leaf.specs.declared.Judged.{Judged}
 use Rattle.leaf.specs.declared.find.Run.{Run}
 use Rattle.leaf.specs.declared.find.LeafRun.{LeafRun}
+use Rattle.tree.specs.Chain.{stop, go, broken}
+use Rattle.list_records.specs.Records.{records}
+use Rattle.list_versions.specs.Gather.{rowsOfKey, wanted, ends, lookRows}
+use Rattle.list_versions.specs.Steps.Gather.{runOf, againOf}
+use Rattle.list_versions.specs.declared.Which.{Which}
+use Rattle.list_versions.specs.declared.Again.{Again}
+use Rattle.row.proofs.Exact.{cell-placed}
 use Rattle.leaf.proofs.Finding.{order-le, running-below, running-same, running-above}
 use Rattle.leaf.proofs.Rowing.{endOf}
 use Rattle.leaf.proofs.Chain.{Chain, chain-cells, chain-back, chain-inside, Rising, judged-leaf}
-use Rattle.tree.specs.Chain.{stop, go, broken}
-use Rattle.list_records.specs.Records.{records}
-use Rattle.list_versions.specs.Gather.{ofKey, wanted, ends, lookRows, runOf, againOf}
-use Rattle.list_versions.specs.declared.Which.{Which}
-use Rattle.list_versions.specs.declared.Again.{Again}
 use Rattle.list_versions.proofs.Recorded.{chain-records, chain-few}
 
 -- the cells of a run stand one after another, and hold these rows
@@ -44,8 +45,8 @@ record Stands (s : List ℕ) (run : Run) (rs : List Row) : Type 0 where
 
 module _ (s : List ℕ) (key : ℕ) where
   -- past a larger key there are none
-  run-over : (k c : ℕ) (here : Run) (cs : List Cell) → key < k → Rising k c cs → (foldCells (running key) here cs ≡ here) × (ofKey key (map (rowOf s) cs) ≡ [])
-  unfolding foldCells ofKey
+  run-over : (k c : ℕ) (here : Run) (cs : List Cell) → key < k → Rising k c cs → (foldCells (running key) here cs ≡ here) × (rowsOfKey key (map (rowOf s) cs) ≡ [])
+  unfolding foldCells rowsOfKey
   run-over k c here [] h r = (refl, refl)
   run-over k c here (x ∷ xs) h r =
       let l = order-le k c (x .key) (x .version .creator) (r .0) in
@@ -58,10 +59,10 @@ module _ (s : List ℕ) (key : ℕ) where
     out : List Cell
     chain : Chain s at out
     fold : foldCells (running key) (record { from = a; to = at; count = n }) cs ≡ record { from = a; to = endOf at out; count = n + length out }
-    same : ofKey key (map (rowOf s) cs) ≡ map (rowOf s) out
+    same : rowsOfKey key (map (rowOf s) cs) ≡ map (rowOf s) out
 
   run-on : (k c a at n : ℕ) (cs : List Cell) → key ≤ k → Rising k c cs → Chain s at cs → GoesOn a at n cs
-  unfolding foldCells ofKey endOf
+  unfolding foldCells rowsOfKey endOf
   run-on k c a at n [] h r ch = record { out = []; chain = tt; fold = ap (λ (i : ℕ). record { from = a; to = at; count = i }) (omega arith); same = refl }
   run-on k c a at n (x ∷ xs) h r ch =
       by-key (eqb (x .key) key) refl (order-le k c (x .key) (x .version .creator) (r .0)) (λ l. run-on (x .key) (x .version .creator) a (x .next) (n + 1) xs l (r .1) (ch .1))
@@ -91,8 +92,8 @@ module _ (s : List ℕ) (key : ℕ) where
 
   -- before the run, which may start at `at`
   run-stands : (k c at : ℕ) (cs : List Cell) → at ≤ length s → Rising k c cs → Chain s at cs
-      → Stands s (foldCells (running key) (record { from = at; to = at; count = 0 }) cs) (ofKey key (map (rowOf s) cs))
-  unfolding foldCells ofKey endOf
+      → Stands s (foldCells (running key) (record { from = at; to = at; count = 0 }) cs) (rowsOfKey key (map (rowOf s) cs))
+  unfolding foldCells rowsOfKey endOf
   run-stands k c at [] h r ch = record { out = []; start = h; chain = tt; end = refl; count = refl; same = refl }
   run-stands k c at (x ∷ xs) h r ch = by-key (ltb (x .key) key) (eqb (x .key) key) refl refl (run-stands (x .key) (x .version .creator) (x .next) xs (cell-placed s at x (ch .0) .inside) (r .1) (ch .1))
     where
@@ -100,8 +101,8 @@ module _ (s : List ℕ) (key : ℕ) where
       here = record { from = at; to = at; count = 0 }
 
       by-key : (a b : Bool) → ltb (x .key) key ≡ a → eqb (x .key) key ≡ b
-          → Stands s (foldCells (running key) (record { from = x .next; to = x .next; count = 0 }) xs) (ofKey key (map (rowOf s) xs))
-          → Stands s (foldCells (running key) (running key here x) xs) (pick (eqb (x .key) key) (rowOf s x ∷ ofKey key (map (rowOf s) xs)) (ofKey key (map (rowOf s) xs)))
+          → Stands s (foldCells (running key) (record { from = x .next; to = x .next; count = 0 }) xs) (rowsOfKey key (map (rowOf s) xs))
+          → Stands s (foldCells (running key) (running key here x) xs) (pick (eqb (x .key) key) (rowOf s x ∷ rowsOfKey key (map (rowOf s) xs)) (rowsOfKey key (map (rowOf s) xs)))
       by-key true b e q ih =
           let l = ltb-true (x .key) key e in
           rw (← running-below key here x l, ne-eqb (x .key) key (λ u. omega arith)) ih

@@ -6,7 +6,8 @@ use Rattle.tree.specs.Chain.{Told, ok, ill}
 use Rattle.tree.specs.Descend.{descendOf, onLeaf}
 use Rattle.tree.specs.declared.Route.{Route}
 use Rattle.list_records.specs.Records.{records}
-use Rattle.list_records.specs.Listed.{Written, written, fitted}
+use Rattle.list_records.specs.Listed.{fitted}
+use Rattle.call_answers.specs.Answer.{written, Written}
 use Rattle.list_records.specs.declared.Listing.{Listing}
 use Rattle.list_versions.specs.Gather.{rowsAlong}
 use Rattle.list_versions.specs.declared.Which.{Which}
@@ -20,6 +21,6 @@ abbrev pub routeOf : Which → Route
 routeOf Which.All = Route.First
 routeOf (Which.Key key) = Route.Search key
 
-unfoldable pub listTree : Which → (used root : ℕ) → (s out : List ℕ) → Written Listing
-listTree w used root s out =
-    onLeaf (λ p. listedRows (rowsAlong w used p s) out) (λ f. written (Listing.Bad f) out) (descendOf 3 (routeOf w) used root s)
+unfoldable pub listTree : (s : List ℕ) → (used root : ℕ) → Which → (out : List ℕ) → Written Listing
+listTree s used root w out =
+    onLeaf (λ p. listedRows (rowsAlong s used p w) out) (λ f. written (Listing.Bad f) out) (descendOf 3 (routeOf w) used root s)

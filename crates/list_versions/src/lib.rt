@@ -6,9 +6,10 @@ ghost use lib.ListN.{length};
 ghost use Rattle.store.specs.Part.{put};
 ghost use Rattle.leaf.specs.Cells.{cellsOf};
 ghost use Rattle.leaf.specs.Rows.{rowsOf};
-ghost use Rattle.list_versions.specs.Gather.{runOf, againOf, rowsAlong, rowsTold, sizeTold, IsOk};
+ghost use Rattle.list_versions.specs.Steps.Gather.{runOf, againOf, rowsTold, sizeTold, IsOk};
+ghost use Rattle.list_versions.specs.Gather.{rowsAlong};
 ghost use Rattle.list_records.specs.Records.{records};
-ghost use Rattle.list_records.specs.Listed.{written};
+ghost use Rattle.call_answers.specs.Answer.{written};
 ghost use Rattle.list_versions.specs.Listed.{listedRows, routeOf, listTree};
 use leaf::Judged;
 use leaf::find::LeafRun;
@@ -46,7 +47,7 @@ fn run_of(pg: &[u8], which: Which, p: u32) -> LeafRun
             Judged::Bad(f) => LeafRun::Bad(f),
             Judged::Ok(e) => LeafRun::Ok(
                 Run {
-                    from: 12,
+                    from: page::HEADER_SIZE,
                     to: e,
                     count: page::get_cell_count(pg) as usize,
                 },
@@ -59,14 +60,14 @@ fn run_of(pg: &[u8], which: Which, p: u32) -> LeafRun
 
 pub fn size_along(pool: &[u8], which: Which, used: u32, first: u32) -> ChainSize
     requires { ⌜ used * 4096 ≤ length (now pool) ⌝ }
-    ensures { λ r. ⌜ r ≡ sizeTold (rowsAlong which used first (now (pool .entry))) ⌝ }
+    ensures { λ r. ⌜ r ≡ sizeTold (rowsAlong (now (pool .entry)) used first which) ⌝ }
 {
     let mut p = first;
     let mut size: usize = 0;
     let mut left = used;
     while 0 < left {
         if used <= p {
-            return ChainSize::Bad(leaf::structural_fault(p));
+            return ChainSize::Bad(row::structural_fault(p));
         }
         let pg = page::pool::page_of(pool, p);
         match run_of(pg, which, p) {
@@ -85,7 +86,7 @@ pub fn size_along(pool: &[u8], which: Which, used: u32, first: u32) -> ChainSize
         }
         left -= 1;
     }
-    ChainSize::Bad(leaf::structural_fault(p))
+    ChainSize::Bad(row::structural_fault(p))
 }
 
 // Where the run of a leaf stands that was judged before: all cells need no second look.
@@ -95,13 +96,13 @@ fn run_again(pg: &[u8], which: Which, p: u32) -> Again
 {
     match which {
         Which::All => Again {
-            from: 12,
+            from: page::HEADER_SIZE,
             count: page::get_cell_count(pg) as usize,
             last: false,
         },
         Which::Key(key) => match leaf::find::run_in_leaf(pg, p, key) {
             LeafRun::Bad(_) => Again {
-                from: 12,
+                from: page::HEADER_SIZE,
                 count: 0,
                 last: true,
             },
@@ -135,8 +136,8 @@ fn write_run(out: &mut [u8], pg: &[u8], o: usize, from: usize, count: usize) -> 
 
 // The listing that was measured before.
 pub fn write_along(pool: &[u8], out: &mut [u8], which: Which, used: u32, first: u32)
-    requires { ⌜ (used * 4096 ≤ length (now pool)) × IsOk (rowsAlong which used first (now pool)) × (length (records (rowsTold (rowsAlong which used first (now pool)))) ≤ length (now out)) ⌝ }
-    ensures { λ _. ⌜ now (out .exit) ≡ put 0 (records (rowsTold (rowsAlong which used first (now (pool .entry))))) (now (out .entry)) ⌝ }
+    requires { ⌜ (used * 4096 ≤ length (now pool)) × IsOk (rowsAlong (now pool) used first which) × (length (records (rowsTold (rowsAlong (now pool) used first which))) ≤ length (now out)) ⌝ }
+    ensures { λ _. ⌜ now (out .exit) ≡ put 0 (records (rowsTold (rowsAlong (now (pool .entry)) used first which))) (now (out .entry)) ⌝ }
 {
     let mut p = first;
     let mut o: usize = 0;
@@ -170,7 +171,7 @@ fn route_of(which: Which) -> Route
 
 fn list_from(pool: &[u8], out: &mut [u8], which: Which, used: u32, first: u32) -> Listing
     requires { ⌜ used * 4096 ≤ length (now pool) ⌝ }
-    ensures { λ r. ⌜ written r (now (out .exit)) ≡ listedRows (rowsAlong which used first (now (pool .entry))) (now (out .entry)) ⌝ }
+    ensures { λ r. ⌜ written r (now (out .exit)) ≡ listedRows (rowsAlong (now (pool .entry)) used first which) (now (out .entry)) ⌝ }
 {
     match size_along(pool, which, used, first) {
         ChainSize::Bad(f) => Listing::Bad(f),
@@ -187,7 +188,7 @@ fn list_from(pool: &[u8], out: &mut [u8], which: Which, used: u32, first: u32) -
 // From the leaf that the way down comes to.
 pub fn list_tree(pool: &[u8], out: &mut [u8], which: Which, used: u32, root: u32) -> Listing
     requires { ⌜ used * 4096 ≤ length (now pool) ⌝ }
-    ensures { λ r. ⌜ written r (now (out .exit)) ≡ listTree which used root (now (pool .entry)) (now (out .entry)) ⌝ }
+    ensures { λ r. ⌜ written r (now (out .exit)) ≡ listTree (now (pool .entry)) used root which (now (out .entry)) ⌝ }
 {
     match tree::descend(pool, used, root, route_of(which)) {
         Descent::Bad(f) => Listing::Bad(f),

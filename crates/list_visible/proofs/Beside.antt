@@ -12,13 +12,13 @@ use Rattle.page.specs.Header.{cellCount, nextLeaf}
 use Rattle.row.specs.Read.{cellAt}
 use Rattle.row.specs.declared.Cell.{Cell}
 use Rattle.row.specs.declared.read.CellRead.{CellRead}
-use Rattle.row.proofs.Exact.{cell-placed}
-use Rattle.inner.specs.Inner.{structural}
+use Rattle.row.specs.Fault.{structural}
 use Rattle.leaf.specs.Cells.{onCell, cellsOf, cells, foldCells, judgeLeaf, onJudged}
 use Rattle.leaf.specs.Rows.{Row, rowOf, rowsOf, rows}
 use Rattle.leaf.specs.declared.Judged.{Judged}
 use Rattle.tree.specs.Chain.{Seen, go, broken, Told, ok, ill, onSeen, along}
 use Rattle.list_visible.specs.Visible.{lookAll, chainRows}
+use Rattle.row.proofs.Exact.{cell-placed}
 
 -- both found the same fault, or Q holds of what they gathered
 abbrev pub Alike : {A B : Type 0} → (A → B → Type 0) → Told A → Told B → Type 0
@@ -68,7 +68,7 @@ module _ {B : Type 0} (look : B → ℕ → List ℕ → Seen B) (g : ℕ → B 
       by-read (CellRead.Got c) e ih =
           rw append-assoc at (ih c (keeps p c rs b h (ap (cellAt (page p s)) (cell-placed (page p s) at c e .here) ∙ e) k))
 
-  pub rows-beside : (p : ℕ) (b : B) → P [] b → Alike P (chainRows used p s) (along look used used b p s)
+  pub rows-beside : (p : ℕ) (b : B) → P [] b → Alike P (chainRows s used p) (along look used used b p s)
   unfolding chainRows
   rows-beside p b k =
       in-step lookAll look (λ q rs. rs ++ rows (page q s)) (λ q d. foldCells (g q) d (cells (page q s))) used s (λ a q. refl) jb (λ m. P) P (λ m rs d h. h)

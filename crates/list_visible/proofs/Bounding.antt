@@ -7,18 +7,18 @@ use native.Mathlib.Omega.{arith}
 use lib.Dec.{ltb}
 use Rattle.page.specs.Page.{page}
 use Rattle.page.specs.Header.{cellCount}
-use Rattle.page.proofs.PageLaws.{page-short}
 use Rattle.row.specs.Read.{cellAt}
 use Rattle.row.specs.declared.Cell.{Cell}
 use Rattle.row.specs.declared.Fault.{Fault}
 use Rattle.row.specs.declared.read.CellRead.{CellRead}
-use Rattle.row.proofs.Exact.{cell-placed}
 use Rattle.leaf.specs.Cells.{onCell, cellsOf, cells, foldCells, judgeLeaf, onJudged}
 use Rattle.leaf.specs.declared.Judged.{Judged}
 use Rattle.tree.specs.Chain.{go, broken, Told, ok, ill, along}
-use Rattle.list_visible.specs.Fast.{boundCell, boundLeaf, seenBound, lookBound, toldBound, startBound, boundAlong}
+use Rattle.list_visible.specs.Steps.Fast.{boundCell, boundLeaf, seenBound, lookBound, toldBound, startBound, boundAlong}
 use Rattle.list_visible.specs.declared.Bound.{Bound}
-use Rattle.list_visible.specs.declared.Bounded.{Bounded}
+use Rattle.list_visible.specs.declared.ChainBound.{ChainBound}
+use Rattle.page.proofs.PageLaws.{page-short}
+use Rattle.row.proofs.Exact.{cell-placed}
 use Rattle.list_visible.proofs.Beside.{Alike, Judging, in-step}
 
 pub bound-step : (pg : List ℕ) (b : Bound) (x : Cell) (at : ℕ) {k e : ℕ} {y : Bound} → cellAt pg at ≡ CellRead.Got x → k ≡ x .key → e ≡ x .next
@@ -26,11 +26,11 @@ pub bound-step : (pg : List ℕ) (b : Bound) (x : Cell) (at : ℕ) {k e : ℕ} {
 bound-step pg b x at r u v q = let h : x .at ≡ at = cell-placed pg at x r .here in q ∙ rw (u, v, h)
 
 -- what a leaf's answer says of the walk
-module _ {r x : Bounded} (said : r ≡ x) where
-  pub bound-broken : {f : Fault} → r ≡ Bounded.Bad f → seenBound x ≡ broken f
+module _ {r x : ChainBound} (said : r ≡ x) where
+  pub bound-broken : {f : Fault} → r ≡ ChainBound.Bad f → seenBound x ≡ broken f
   bound-broken e = ap seenBound (sym said ∙ e)
 
-  pub bound-go : {b : Bound} → r ≡ Bounded.Ok b → seenBound x ≡ go b
+  pub bound-go : {b : Bound} → r ≡ ChainBound.Ok b → seenBound x ≡ go b
   bound-go e = ap seenBound (sym said ∙ e)
 
 -- a record takes less than twice its cell's bytes
@@ -55,11 +55,11 @@ module _ (p : ℕ) (s : List ℕ) where
   fold-more b = omega (arith, fold-few (cellCount (page p s)) 12 b (omega arith))
 
   -- after one leaf
-  pub leaf-more : (b : Bound) {pg : List ℕ} {r : Bounded} {d : Bound} → pg ≡ page p s → r ≡ boundLeaf p b pg → r ≡ Bounded.Ok d → d .size ≤ b .size + 8192
+  pub leaf-more : (b : Bound) {pg : List ℕ} {r : ChainBound} {d : Bound} → pg ≡ page p s → r ≡ boundLeaf p b pg → r ≡ ChainBound.Ok d → d .size ≤ b .size + 8192
   unfolding boundLeaf
   leaf-more b {pg} {r} {d} here e q = by-judged (judgeLeaf p (page p s)) (sym (rw here at e) ∙ q)
     where
-      by-judged : (j : Judged) → onJudged (λ i. Bounded.Ok (foldCells boundCell b (cells (page p s)))) (λ f. Bounded.Bad f) j ≡ Bounded.Ok d → d .size ≤ b .size + 8192
+      by-judged : (j : Judged) → onJudged (λ i. ChainBound.Ok (foldCells boundCell b (cells (page p s)))) (λ f. ChainBound.Bad f) j ≡ ChainBound.Ok d → d .size ≤ b .size + 8192
       by-judged (Judged.Ok i) u = let same : foldCells boundCell b (cells (page p s)) ≡ d = cc in rw same at (fold-more b)
       by-judged (Judged.Bad f) u = absurd (let z : _≡_ {A = ℕ} 0 1 = cc in omega arith)
 
@@ -71,18 +71,18 @@ judging-bound s b p = by-judged (judgeLeaf p (page p s))
     after : Bound
     after = foldCells boundCell b (cells (page p s))
 
-    by-judged : (j : Judged) → seenBound (onJudged (λ e. Bounded.Ok after) (λ f. Bounded.Bad f) j) ≡ onJudged (λ e. go after) (λ f. broken f) j
+    by-judged : (j : Judged) → seenBound (onJudged (λ e. ChainBound.Ok after) (λ f. ChainBound.Bad f) j) ≡ onJudged (λ e. go after) (λ f. broken f) j
     by-judged (Judged.Ok e) = refl
     by-judged (Judged.Bad f) = refl
 
 -- after the chain
-pub along-few : (used p : ℕ) (s : List ℕ) {b : Bound} → boundAlong used p s ≡ Bounded.Ok b → b .size ≤ used * 8192
+pub along-few : (used p : ℕ) (s : List ℕ) {b : Bound} → boundAlong s used p ≡ ChainBound.Ok b → b .size ≤ used * 8192
 unfolding boundAlong
 along-few used p s {b} e =
     by-told (along lookBound used used startBound p s) e
     (in-step lookBound lookBound (λ q a. foldCells boundCell a (cells (page q s))) (λ q a. foldCells boundCell a (cells (page q s))) used s (judging-bound s) (judging-bound s)
     (λ m a d. a .size + m * 8192 ≤ used * 8192) (λ a d. a .size ≤ used * 8192) (λ m a d h. omega arith) (λ m q a d h k. omega (arith, fold-more q s a)) used p startBound startBound (omega arith))
   where
-    by-told : (t : Told Bound) → toldBound t ≡ Bounded.Ok b → Alike (λ (a : Bound) (d : Bound). a .size ≤ used * 8192) t t → b .size ≤ used * 8192
+    by-told : (t : Told Bound) → toldBound t ≡ ChainBound.Ok b → Alike (λ (a : Bound) (d : Bound). a .size ≤ used * 8192) t t → b .size ≤ used * 8192
     by-told (ok d) u k = let same : d ≡ b = cc in rw same at k
     by-told (ill f) u k = absurd (let z : _≡_ {A = ℕ} 0 1 = cc in omega arith)

@@ -9,7 +9,6 @@ use borrow.Author.Tests.{ltb-false}
 use lib.Dec.{ltb}
 use lib.ListN.{length, length-append}
 use Rattle.store.specs.Le.{AreBytes}
-use Rattle.store.proofs.PartLaws.{length-part}
 use Rattle.page.specs.Page.{page}
 use Rattle.row.specs.Read.{cellAt}
 use Rattle.row.specs.declared.Cell.{Cell}
@@ -19,10 +18,11 @@ use Rattle.leaf.specs.Rows.{Row, rowOf}
 use Rattle.tree.specs.Chain.{Told, ok, ill, along}
 use Rattle.list_records.specs.Records.{records}
 use Rattle.list_visible.specs.Visible.{chainRows}
-use Rattle.list_visible.specs.Fast.{boundCell, lookBound, toldBound, startBound, boundAlong}
-use Rattle.list_visible.specs.ScanFacts.{falling, BoundIs, BoundTells, FaultsAgree}
+use Rattle.list_visible.specs.Steps.Fast.{boundCell, lookBound, toldBound, startBound, boundAlong}
+use Rattle.list_visible.specs.Steps.ScanFacts.{falling, BoundIs, BoundTells, FaultsAgree}
 use Rattle.list_visible.specs.declared.Bound.{Bound}
-use Rattle.list_visible.specs.declared.Bounded.{Bounded}
+use Rattle.list_visible.specs.declared.ChainBound.{ChainBound}
+use Rattle.store.proofs.PartLaws.{length-part}
 use Rattle.list_visible.proofs.Beside.{Alike, rows-beside}
 use Rattle.list_visible.proofs.Choosing.{records-append}
 use Rattle.list_visible.proofs.Standing.{length-record, cell-whole, cell-record}
@@ -84,7 +84,7 @@ module _ (s : List ℕ) (B : AreBytes s) (used : ℕ) (room : used * 4096 ≤ le
         falls = rw (falling-snoc 0 rs r, k .falls, k .last);
       }
 
-  bounds : (p : ℕ) → Alike Bounds (chainRows used p s) (along lookBound used used startBound p s)
+  bounds : (p : ℕ) → Alike Bounds (chainRows s used p) (along lookBound used used startBound p s)
   unfolding lastOf records falling
   bounds p = rows-beside lookBound (λ q b c. boundCell b c) used s (judging-bound s) Bounds bounds-more p startBound (record { last = refl; size = refl; falls = refl })
 
@@ -102,6 +102,6 @@ faults-agree used p s f e =
     by-told (along lookBound used used startBound p s)
     (rw e at (rows-beside lookBound (λ q b c. boundCell b c) used s (judging-bound s) (λ rs b. Unit) (λ q c rs b h r k. tt) p startBound tt))
   where
-    by-told : (t : Told Bound) → Alike (λ (rs : List Row) (b : Bound). Unit) (ill f) t → toldBound t ≡ Bounded.Bad f
+    by-told : (t : Told Bound) → Alike (λ (rs : List Row) (b : Bound). Unit) (ill f) t → toldBound t ≡ ChainBound.Bad f
     by-told (ok b) k = absurd k
-    by-told (ill g) k = ap (λ (x : Fault). Bounded.Bad x) (sym k)
+    by-told (ill g) k = ap (λ (x : Fault). ChainBound.Bad x) (sym k)

@@ -6,7 +6,8 @@ use native.Mathlib.Omega.{arith}
 use borrow.Author.Tests.{le-leb, lt-leb}
 use lib.ListN.{length}
 use Rattle.store.specs.Part.{put}
-use Rattle.list_records.specs.Listed.{written, fitted}
+use Rattle.list_records.specs.Listed.{fitted}
+use Rattle.call_answers.specs.Answer.{written}
 use Rattle.list_records.specs.declared.Listing.{Listing}
 
 module _ (x out : List ℕ) {n : ℕ} (size : n ≡ length x) where

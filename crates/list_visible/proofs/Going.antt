@@ -14,14 +14,15 @@ use Rattle.page.specs.Key.{rankAt}
 use Rattle.row.specs.Read.{stampSize, stampIn, cellAt}
 use Rattle.row.specs.declared.Cell.{Cell}
 use Rattle.row.specs.declared.read.CellRead.{CellRead}
-use Rattle.row.proofs.Exact.{cell-placed, cell-fields}
 use Rattle.mvcc.specs.Rules.{visible}
-use Rattle.mvcc.specs.declared.Current.{Current}
-use Rattle.leaf.specs.Cells.{Step, cellsOf, structural, stepOf, onStep, judgeCells, judgeLeaf}
+use Rattle.leaf.specs.Cells.{Step, cellsOf, stepOf, onStep, judgeCells, judgeLeaf}
+use Rattle.row.specs.Fault.{structural}
 use Rattle.leaf.specs.declared.Judged.{Judged}
-use Rattle.leaf.proofs.Walking.{step-cell}
-use Rattle.list_visible.specs.Fast.{chosenOf, WasJudged}
+use Rattle.list_visible.specs.Steps.Fast.{chosenOf, WasJudged}
 use Rattle.list_visible.specs.declared.pass.Chosen.{Chosen}
+use Rattle.mvcc.specs.Snapshot.{Snapshot}
+use Rattle.row.proofs.Exact.{cell-placed, cell-fields}
+use Rattle.leaf.proofs.Walking.{step-cell}
 
 -- the n cells that are left, from `at` on, were judged after one of that key and creator
 pub record Going (p n at : ℕ) (pg : List ℕ) : Type 0 where
@@ -77,9 +78,9 @@ next-turn p (suc n) at pg h g = by-step (stepOf p (g .key) (g .creator) at pg) r
 
 -- what was read of the cell
 module _ {p n at : ℕ} {pg : List ℕ} (t : Turn p n at pg) where
-  pub turn-visible : (st : ℕ → ℕ) (active : List ℕ) (xmax : ℕ) (cur : Current) {b : Bool} → b ≡ visible st active xmax cur (leAt 8 pg (at + 8 + 1)) (stampIn pg (at + 8 + 9))
-      → b ≡ visible st active xmax cur (t .cell .version .creator) (t .cell .version .stamp)
-  turn-visible st active xmax cur u = let f = cell-fields pg at (t .cell) (t .read) in u ∙ rw (f .creator-is, f .stamp-is)
+  pub turn-visible : (sn : Snapshot) (st : ℕ → ℕ) {b : Bool} → b ≡ visible sn st (leAt 8 pg (at + 8 + 1)) (stampIn pg (at + 8 + 9))
+      → b ≡ visible sn st (t .cell .version .creator) (t .cell .version .stamp)
+  turn-visible sn st u = let f = cell-fields pg at (t .cell) (t .read) in u ∙ rw (f .creator-is, f .stamp-is)
 
   pub turn-chosen : {end : ℕ} {r : Chosen} → end ≡ at + 8 + leAt 4 pg (at + 4)
       → r ≡ record { from = p * 4096 + at; to = p * 4096 + end; key = rankAt pg at; creator = leAt 8 pg (at + 8 + 1) } → r ≡ chosenOf p (t .cell)

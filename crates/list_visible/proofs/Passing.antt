@@ -10,34 +10,34 @@ use lib.Dec.{ltb, eqb}
 use lib.ListN.{length, length-append}
 use Rattle.store.specs.Part.{put}
 use Rattle.store.specs.Pick.{pick}
-use Rattle.store.proofs.PutLaws.{put-nil, length-put, put-after-at}
 use Rattle.page.specs.Page.{page}
 use Rattle.page.specs.Header.{cellCount, nextLeaf}
-use Rattle.page.proofs.PageLaws.{page-short}
 use Rattle.row.specs.Read.{cellAt}
 use Rattle.row.specs.declared.Cell.{Cell}
 use Rattle.row.specs.declared.read.CellRead.{CellRead}
-use Rattle.row.proofs.Exact.{cell-placed}
-use Rattle.mvcc.specs.declared.Current.{Current}
-use Rattle.inner.specs.Inner.{structural}
+use Rattle.row.specs.Fault.{structural}
 use Rattle.leaf.specs.Cells.{onCell, cellsOf, cells, foldCells, judgeLeaf, onJudged}
 use Rattle.leaf.specs.declared.Judged.{Judged}
 use Rattle.tree.specs.Chain.{go, broken, Told, ok, ill, onSeen, along}
-use Rattle.tree.proofs.Ways.{along-end, along-on}
-use Rattle.list_records.specs.Listed.{Written, written}
-use Rattle.list_visible.specs.Fast.{scanned, scanLeaf, startScan, fullSize, waitBytes, pushedAll, passLeaf, Pass, lookPass, passAlong, passBytes, passed, WasJudged, Whole, Waits, Through, Fits}
+use Rattle.call_answers.specs.Answer.{written, Written}
+use Rattle.list_visible.specs.Steps.Fast.{scanned, scanLeaf, startScan, fullSize, waitBytes, pushedAll, passLeaf, Pass, lookPass, passAlong, passBytes, passed, WasJudged, Whole, Waits, Through, PassFits}
 use Rattle.list_visible.specs.declared.pass.Scan.{Scan}
+use Rattle.mvcc.specs.Snapshot.{Snapshot}
+use Rattle.store.proofs.PutLaws.{put-nil, length-put, put-after-at}
+use Rattle.page.proofs.PageLaws.{page-short}
+use Rattle.row.proofs.Exact.{cell-placed}
+use Rattle.tree.proofs.Ways.{along-end, along-on}
 use Rattle.list_visible.proofs.Stepping.{waits-whole, length-wait, both}
 use Rattle.list_visible.proofs.Measuring.{scanned-more, scanned-wait}
 use Rattle.list_visible.proofs.Writing.{cell-waits, scanned-size}
 
-module _ (st : ℕ → ℕ) (active : List ℕ) (xmax : ℕ) (cur : Current) (used : ℕ) (s : List ℕ) where
+module _ (sn : Snapshot) (st : ℕ → ℕ) (used : ℕ) (s : List ℕ) where
   -- ---- what a leaf does to what waits, and to the length
 
   record LeafAfter (p at : ℕ) (sc : Scan) (xs : List Cell) : Type 0 where
-    waits : Waits (foldCells (scanned st active xmax cur p) sc xs .wait) s
-    size : foldCells (scanned st active xmax cur p) sc xs .size ≡ sc .size + length (pushedAll st active xmax cur p sc xs s)
-    small : foldCells (scanned st active xmax cur p) sc xs .size + at * 4102 ≤ sc .size + 16801792
+    waits : Waits (foldCells (scanned sn st p) sc xs .wait) s
+    size : foldCells (scanned sn st p) sc xs .size ≡ sc .size + length (pushedAll sn st p sc xs s)
+    small : foldCells (scanned sn st p) sc xs .size + at * 4102 ≤ sc .size + 16801792
 
   leaf-after : (p : ℕ) → p < used → used * 4096 ≤ length s → (n at : ℕ) (sc : Scan) → at ≤ 4096 → Waits (sc .wait) s → LeafAfter p at sc (cellsOf n at (page p s))
   unfolding cellsOf foldCells pushedAll
@@ -51,12 +51,12 @@ module _ (st : ℕ → ℕ) (active : List ℕ) (xmax : ℕ) (cur : Current) (us
           let a = cell-placed (page p s) at c e in
           let m = page-short p s in
           let low : at + 19 ≤ c .next = omega (arith, a .past-head, a .whole) in
-          let d = scanned st active xmax cur p sc c in
-          let i = ih c d (omega (arith, a .inside)) (scanned-wait st active xmax cur p sc c (λ v. Waits v s) w (cell-waits used p at s room h e)) in
-          let grows = scanned-more st active xmax cur p sc c (waits-whole (sc .wait) s w) in
+          let d = scanned sn st p sc c in
+          let i = ih c d (omega (arith, a .inside)) (scanned-wait sn st p sc c (λ v. Waits v s) w (cell-waits used p at s room h e)) in
+          let grows = scanned-more sn st p sc c (waits-whole (sc .wait) s w) in
           record {
             waits = i .waits;
-            size = i .size ∙ rw (scanned-size p s sc st active xmax cur c w, length-append) (omega arith);
+            size = i .size ∙ rw (scanned-size p s sc sn st c w, length-append) (omega arith);
             small = omega (arith, i .small);
           }
 
@@ -64,38 +64,38 @@ module _ (st : ℕ → ℕ) (active : List ℕ) (xmax : ℕ) (cur : Current) (us
 
   abbrev after : ℕ → Pass → Pass
   after p a =
-      record { scan = scanLeaf st active xmax cur p (a .scan) (page p s); bytes = a .bytes ++ pushedAll st active xmax cur p (a .scan) (cells (page p s)) s }
+      record { scan = scanLeaf (page p s) p sn st (a .scan); bytes = a .bytes ++ pushedAll sn st p (a .scan) (cells (page p s)) s }
 
   record FirstLeaf (p : ℕ) (a e : Pass) : Type 0 where
     in-use : p < used
     sound : WasJudged p (page p s)
-    judged : lookPass st active xmax cur s a p (page p s) ≡ go (after p a)
-    grows : length (a .bytes) + length (pushedAll st active xmax cur p (a .scan) (cells (page p s)) s) ≤ length (e .bytes)
+    judged : lookPass s sn st a p (page p s) ≡ go (after p a)
+    grows : length (a .bytes) + length (pushedAll sn st p (a .scan) (cells (page p s)) s) ≤ length (e .bytes)
 
-  first-leaf : (m : ℕ) (a : Pass) (p : ℕ) {e : Pass} → along (lookPass st active xmax cur s) used m a p s ≡ ok e → FirstLeaf p a e
+  first-leaf : (m : ℕ) (a : Pass) (p : ℕ) {e : Pass} → along (lookPass s sn st) used m a p s ≡ ok e → FirstLeaf p a e
   unfolding along
   first-leaf zero a p q = absurd (let z : _≡_ {A = ℕ} 0 1 = cc in omega arith)
   first-leaf (suc m) a p {e} q =
       by-cases (ltb p used) refl (judgeLeaf p (page p s)) refl (eqb (nextLeaf (page p s)) 0) q (λ u. first-leaf m (after p a) (nextLeaf (page p s)) u)
     where
       more : ℕ
-      more = length (pushedAll st active xmax cur p (a .scan) (cells (page p s)) s)
+      more = length (pushedAll sn st p (a .scan) (cells (page p s)) s)
 
       by-cases : (t : Bool) → ltb p used ≡ t → (j : Judged) → judgeLeaf p (page p s) ≡ j → (z : Bool)
           → pick t
-          (onSeen (λ b. ok b) (λ b. pick z (ok b) (along (lookPass st active xmax cur s) used m b (nextLeaf (page p s)) s)) (λ f. ill f) (onJudged (λ i. go (after p a)) (λ f. broken f) j))
+          (onSeen (λ b. ok b) (λ b. pick z (ok b) (along (lookPass s sn st) used m b (nextLeaf (page p s)) s)) (λ f. ill f) (onJudged (λ i. go (after p a)) (λ f. broken f) j))
           (ill (structural p))
           ≡ ok e
-          → (along (lookPass st active xmax cur s) used m (after p a) (nextLeaf (page p s)) s ≡ ok e → FirstLeaf (nextLeaf (page p s)) (after p a) e)
+          → (along (lookPass s sn st) used m (after p a) (nextLeaf (page p s)) s ≡ ok e → FirstLeaf (nextLeaf (page p s)) (after p a) e)
           → FirstLeaf p a e
       by-cases false t j i z u ih = absurd (let z : _≡_ {A = ℕ} 0 1 = cc in omega arith)
       by-cases true t (Judged.Bad f) i z u ih = absurd (let z : _≡_ {A = ℕ} 0 1 = cc in omega arith)
       by-cases true t (Judged.Ok n) i true u ih =
           let same : after p a ≡ e = cc in
-          let l : length (e .bytes) ≡ length (a .bytes) + more = ap (λ (b : Pass). length (b .bytes)) (sym same) ∙ length-append (a .bytes) (pushedAll st active xmax cur p (a .scan) (cells (page p s)) s) in
+          let l : length (e .bytes) ≡ length (a .bytes) + more = ap (λ (b : Pass). length (b .bytes)) (sym same) ∙ length-append (a .bytes) (pushedAll sn st p (a .scan) (cells (page p s)) s) in
           record { in-use = ltb-true p used t; sound = record { end = n; judged = i }; judged = rw i; grows = omega arith }
       by-cases true t (Judged.Ok n) i false u ih =
-          let l = length-append (a .bytes) (pushedAll st active xmax cur p (a .scan) (cells (page p s)) s) in
+          let l = length-append (a .bytes) (pushedAll sn st p (a .scan) (cells (page p s)) s) in
           record { in-use = ltb-true p used t; sound = record { end = n; judged = i }; judged = rw i; grows = omega (arith, ih u .grows) }
 
   -- ---- the loop along the chain
@@ -104,7 +104,7 @@ module _ (st : ℕ → ℕ) (active : List ℕ) (xmax : ℕ) (cur : Current) (us
     -- m pages left to meet, from page p on
     pub record Passing (m p : ℕ) (sc : Scan) : Type 0 where
       pub bytes : List ℕ
-      pub same : along (lookPass st active xmax cur s) used m (record { scan = sc; bytes = bytes }) p s ≡ passAlong st active xmax cur used first s
+      pub same : along (lookPass s sn st) used m (record { scan = sc; bytes = bytes }) p s ≡ passAlong s used first sn st
       pub size : sc .size ≡ length bytes
       pub waits : Waits (sc .wait) s
       pub small : sc .size + m * 16801792 ≤ used * 16801792
@@ -113,14 +113,14 @@ module _ (st : ℕ → ℕ) (active : List ℕ) (xmax : ℕ) (cur : Current) (us
     unfolding passAlong
     passing-start = record { bytes = []; same = refl; size = refl; waits = tt; small = omega arith }
 
-    module _ {m p : ℕ} {sc : Scan} (through : Through (passAlong st active xmax cur used first s) s) (w : Passing m p sc) where
-      told : along (lookPass st active xmax cur s) used m (record { scan = sc; bytes = w .bytes }) p s ≡ ok (through .pass)
+    module _ {m p : ℕ} {sc : Scan} (through : Through (passAlong s used first sn st) s) (w : Passing m p sc) where
+      told : along (lookPass s sn st) used m (record { scan = sc; bytes = w .bytes }) p s ≡ ok (through .pass)
       told = w .same ∙ through .judged
 
       leaf : FirstLeaf p (record { scan = sc; bytes = w .bytes }) (through .pass)
       leaf = first-leaf m (record { scan = sc; bytes = w .bytes }) p told
 
-      whole : length (passBytes s (passAlong st active xmax cur used first s)) ≡ length (through .pass .bytes) + length (waitBytes (through .pass .scan .wait) s)
+      whole : length (passBytes s (passAlong s used first sn st)) ≡ length (through .pass .bytes) + length (waitBytes (through .pass .scan .wait) s)
       whole = ap (λ (t : Told Pass). length (passBytes s t)) (through .judged) ∙ length-append (through .pass .bytes) (waitBytes (through .pass .scan .wait) s)
 
       pub passing-in : p < used
@@ -133,16 +133,16 @@ module _ (st : ℕ → ℕ) (active : List ℕ) (xmax : ℕ) (cur : Current) (us
       unfolding along
       passing-over h = over m h told
         where
-          over : (k : ℕ) → k ≤ 0 → along (lookPass st active xmax cur s) used k (record { scan = sc; bytes = w .bytes }) p s ≡ ok (through .pass) → ⊥
+          over : (k : ℕ) → k ≤ 0 → along (lookPass s sn st) used k (record { scan = sc; bytes = w .bytes }) p s ≡ ok (through .pass) → ⊥
           over zero l u = let z : _≡_ {A = ℕ} 0 1 = cc in omega arith
           over (suc k) l u = omega arith
 
       -- with the leaf's records there are not more than all
-      pub passing-grows : sc .size + length (pushedAll st active xmax cur p sc (cells (page p s)) s) ≤ length (passBytes s (passAlong st active xmax cur used first s))
+      pub passing-grows : sc .size + length (pushedAll sn st p sc (cells (page p s)) s) ≤ length (passBytes s (passAlong s used first sn st))
       passing-grows = omega (arith, leaf .grows, whole, w .size)
 
       -- after the leaf
-      module _ {d : Scan} (room : used * 4096 ≤ length s) (e : d ≡ scanLeaf st active xmax cur p sc (page p s)) where
+      module _ {d : Scan} (room : used * 4096 ≤ length s) (e : d ≡ scanLeaf (page p s) p sn st sc) where
         abbrev step : Pass
         step = after p (record { scan = sc; bytes = w .bytes })
 
@@ -155,11 +155,11 @@ module _ (st : ℕ → ℕ) (active : List ℕ) (xmax : ℕ) (cur : Current) (us
         unfolding scanLeaf
         left-is =
             let l = leaf-after p (leaf .in-use) room (cellCount (page p s)) 12 sc (omega arith) (w .waits) in
-            let k = length-append (w .bytes) (pushedAll st active xmax cur p sc (cells (page p s)) s) in
+            let k = length-append (w .bytes) (pushedAll sn st p sc (cells (page p s)) s) in
             let n = ap (λ (x : Scan). x .size) e in
             record { size-is = n ∙ (l .size ∙ rw k (omega (arith, w .size))); waits-is = rw e (l .waits); small-is = omega (arith, n, l .small) }
 
-        looked : lookPass st active xmax cur s (record { scan = sc; bytes = w .bytes }) p (page p s) ≡ go (record { scan = d; bytes = step .bytes })
+        looked : lookPass s sn st (record { scan = sc; bytes = w .bytes }) p (page p s) ≡ go (record { scan = d; bytes = step .bytes })
         looked = leaf .judged ∙ rw e
 
         module _ {pg : List ℕ} {n : ℕ} (left : 0 < m) (here : pg ≡ page p s) (next : n ≡ nextLeaf pg) where
@@ -167,17 +167,17 @@ module _ (st : ℕ → ℕ) (active : List ℕ) (xmax : ℕ) (cur : Current) (us
           passing-on z =
               record {
                 bytes = step .bytes;
-                same = along-on (lookPass st active xmax cur s) used _ p s (leaf .in-use) here m left (rw here looked) next z ∙ w .same;
+                same = along-on (lookPass s sn st) used _ p s (leaf .in-use) here m left (rw here looked) next z ∙ w .same;
                 size = left-is .size-is;
                 waits = left-is .waits-is;
                 small = omega (arith, left-is .small-is, w .small);
               }
 
           module _ (z : n ≡ 0) where
-            ended : passAlong st active xmax cur used first s ≡ ok (record { scan = d; bytes = step .bytes })
-            ended = sym (w .same) ∙ sym (along-end (lookPass st active xmax cur s) used _ p s (leaf .in-use) here m left (rw here looked) next z)
+            ended : passAlong s used first sn st ≡ ok (record { scan = d; bytes = step .bytes })
+            ended = sym (w .same) ∙ sym (along-end (lookPass s sn st) used _ p s (leaf .in-use) here m left (rw here looked) next z)
 
-            all : length (step .bytes) + length (waitBytes (d .wait) s) ≡ length (passBytes s (passAlong st active xmax cur used first s))
+            all : length (step .bytes) + length (waitBytes (d .wait) s) ≡ length (passBytes s (passAlong s used first sn st))
             all = sym (ap (λ (x : Told Pass). length (passBytes s x)) ended ∙ length-append (step .bytes) (waitBytes (d .wait) s))
 
             -- what is asked of what waits, and the whole length
@@ -187,7 +187,7 @@ module _ (st : ℕ → ℕ) (active : List ℕ) (xmax : ℕ) (cur : Current) (us
             pub last-whole : Whole (d .wait) × (d .size ≤ 9223372036854775807)
             last-whole = (waits-whole (d .wait) s last-waits, omega (arith, left-is .size-is, all, through .few))
 
-            pub last-size : {r : ℕ} → r ≡ fullSize d → r ≡ length (passBytes s (passAlong st active xmax cur used first s))
+            pub last-size : {r : ℕ} → r ≡ fullSize d → r ≡ length (passBytes s (passAlong s used first sn st))
             last-size u = omega (arith, u, length-wait (d .wait) s last-waits, left-is .size-is, all)
 
   -- ---- the same with an output
@@ -201,30 +201,30 @@ module _ (st : ℕ → ℕ) (active : List ℕ) (xmax : ℕ) (cur : Current) (us
     unfolding passing-start
     putting-start = record { passing = passing-start first; so-far = sym (put-nil 0 out₀) }
 
-    module _ {m p : ℕ} {sc : Scan} {out : List ℕ} (fits : Fits (passAlong st active xmax cur used first s) s out₀) (w : Putting m p sc out) where
+    module _ {m p : ℕ} {sc : Scan} {out : List ℕ} (fits : PassFits (passAlong s used first sn st) s out₀) (w : Putting m p sc out) where
       -- the output has its length
       putting-long : length out ≡ length out₀
       putting-long = ap length (w .so-far) ∙ length-put 0 (w .passing .bytes) out₀ (omega (arith, passing-grows first (fits .through) (w .passing), fits .room, w .passing .size))
 
-      pub putting-room : sc .size + length (pushedAll st active xmax cur p sc (cells (page p s)) s) ≤ length out
+      pub putting-room : sc .size + length (pushedAll sn st p sc (cells (page p s)) s) ≤ length out
       putting-room = omega (arith, passing-grows first (fits .through) (w .passing), fits .room, putting-long)
 
-      pub putting-few : sc .size + length (pushedAll st active xmax cur p sc (cells (page p s)) s) ≤ 9223372036854775807
+      pub putting-few : sc .size + length (pushedAll sn st p sc (cells (page p s)) s) ≤ 9223372036854775807
       putting-few = omega (arith, passing-grows first (fits .through) (w .passing), fits .through .few)
 
       -- after the leaf
-      module _ {d : Scan} {t : List ℕ} (room : used * 4096 ≤ length s) (e : written d t ≡ passLeaf st active xmax cur p sc s out) where
-        scan-is : d ≡ scanLeaf st active xmax cur p sc (page p s)
+      module _ {d : Scan} {t : List ℕ} (room : used * 4096 ≤ length s) (e : written d t ≡ passLeaf s p sn st sc out) where
+        scan-is : d ≡ scanLeaf (page p s) p sn st sc
         unfolding passLeaf
         scan-is = ap (λ (y : Written Scan). y .answer) e
 
         abbrev bytes-now : List ℕ
-        bytes-now = w .passing .bytes ++ pushedAll st active xmax cur p sc (cells (page p s)) s
+        bytes-now = w .passing .bytes ++ pushedAll sn st p sc (cells (page p s)) s
 
         out-is : t ≡ put 0 bytes-now out₀
         unfolding passLeaf
         out-is =
-            let y = pushedAll st active xmax cur p sc (cells (page p s)) s in
+            let y = pushedAll sn st p sc (cells (page p s)) s in
             let b : t ≡ put (sc .size) y out = ap (λ (z : Written Scan). z .output) e in
             let n : sc .size ≡ 0 + length (w .passing .bytes) = omega (arith, w .passing .size) in
             b ∙ (ap (λ (x : List ℕ). put (sc .size) y x) (w .so-far) ∙ put-after-at 0 (sc .size) (w .passing .bytes) y out₀ (omega arith) n)
@@ -238,7 +238,7 @@ module _ (st : ℕ → ℕ) (active : List ℕ) (xmax : ℕ) (cur : Current) (us
             size-now : d .size ≡ 0 + length bytes-now
             size-now = omega (arith, left-is first (fits .through) (w .passing) room scan-is .size-is)
 
-            whole-now : length bytes-now + length (waitBytes (d .wait) s) ≡ length (passBytes s (passAlong st active xmax cur used first s))
+            whole-now : length bytes-now + length (waitBytes (d .wait) s) ≡ length (passBytes s (passAlong s used first sn st))
             whole-now = all first (fits .through) (w .passing) room scan-is left here next z
 
             same-out : length t ≡ length out₀
@@ -255,7 +255,7 @@ module _ (st : ℕ → ℕ) (active : List ℕ) (xmax : ℕ) (cur : Current) (us
               pub last-long : length r ≡ length out₀
               last-long = ap length u ∙ (length-put (d .size) (waitBytes (d .wait) s) t (last-asks .1) ∙ same-out)
 
-              pub last-is : {l : ℕ} → l ≡ fullSize d → written l r ≡ passed (passBytes s (passAlong st active xmax cur used first s)) out₀
+              pub last-is : {l : ℕ} → l ≡ fullSize d → written l r ≡ passed (passBytes s (passAlong s used first sn st)) out₀
               last-is v =
                   both
                   (last-size first (fits .through) (w .passing) room scan-is left here next z v)

@@ -11,9 +11,9 @@ use lib.ListN.{length, length-append}
 use Rattle.store.specs.Pick.{pick}
 use Rattle.leaf.specs.Rows.{Row}
 use Rattle.list_records.specs.Records.{records}
-use Rattle.list_visible.specs.Visible.{entered}
-use Rattle.list_visible.specs.Fast.{recordSize, waitingFor, stepFrom, waitBytes, pushedBy}
-use Rattle.list_visible.specs.ScanFacts.{falling}
+use Rattle.list_visible.specs.Visible.{enteredRow}
+use Rattle.list_visible.specs.Steps.Fast.{recordSize, waitingFor, stepFrom, waitBytes, pushedBy}
+use Rattle.list_visible.specs.Steps.ScanFacts.{falling}
 use Rattle.list_visible.specs.declared.pass.Chosen.{Chosen}
 use Rattle.list_visible.specs.declared.pass.Wait.{Wait}
 use Rattle.list_visible.specs.declared.pass.Scan.{Scan}
@@ -64,8 +64,8 @@ module _ (s : List ℕ) (last : ℕ) (chosen : List Row) (bytes : List ℕ) wher
       record { listed = l .listed; said = l .said; waiting = record { row = a .row; stands = a .stands; are = a .are; smaller = a .smaller; late = omega (arith, a .late) } }
 
   module _ (x : Chosen) (r : Row) (v : VersionIs s x r) where
-    lists-first : Lists s last chosen Wait.Nothing bytes → Lists s (r .key) (entered r chosen) (Wait.For x) bytes
-    unfolding entered
+    lists-first : Lists s last chosen Wait.Nothing bytes → Lists s (r .key) (enteredRow r chosen) (Wait.For x) bytes
+    unfolding enteredRow
     lists-first l =
         record {
           listed = [];
@@ -77,8 +77,8 @@ module _ (s : List ℕ) (last : ℕ) (chosen : List Row) (bytes : List ℕ) wher
       abbrev old : Row
       old = l .waiting .row
 
-      past : Below (r .key) (l .listed) → entered r chosen ≡ l .listed ++ entered r (old ∷ [])
-      past b = ap (entered r) (l .waiting .are) ∙ entered-past r (l .listed) (old ∷ []) b
+      past : Below (r .key) (l .listed) → enteredRow r chosen ≡ l .listed ++ enteredRow r (old ∷ [])
+      past b = ap (enteredRow r) (l .waiting .are) ∙ entered-past r (l .listed) (old ∷ []) b
 
       low : Below (r .key) (l .listed)
       low = below-more (old .key) (r .key) (l .listed) (omega (arith, l .waiting .late)) (l .waiting .smaller)
@@ -90,8 +90,8 @@ module _ (s : List ℕ) (last : ℕ) (chosen : List Row) (bytes : List ℕ) wher
         one : r .key ≡ old .key
         one = sym (v .key-is) ∙ (sym same ∙ l .waiting .stands .key-is)
 
-        lists-newer : o .creator < x .creator → Lists s (r .key) (entered r chosen) (Wait.For x) bytes
-        unfolding entered
+        lists-newer : o .creator < x .creator → Lists s (r .key) (enteredRow r chosen) (Wait.For x) bytes
+        unfolding enteredRow
         lists-newer n =
             let less : old .creator < r .creator = omega (arith, l .waiting .stands .creator-is, v .creator-is) in
             record {
@@ -107,8 +107,8 @@ module _ (s : List ℕ) (last : ℕ) (chosen : List Row) (bytes : List ℕ) wher
                   };
             }
 
-        lists-older : x .creator ≤ o .creator → Lists s (r .key) (entered r chosen) (Wait.For o) bytes
-        unfolding entered
+        lists-older : x .creator ≤ o .creator → Lists s (r .key) (enteredRow r chosen) (Wait.For o) bytes
+        unfolding enteredRow
         lists-older n =
             let less : r .creator ≤ old .creator = omega (arith, l .waiting .stands .creator-is, v .creator-is) in
             record {
@@ -124,8 +124,8 @@ module _ (s : List ℕ) (last : ℕ) (chosen : List Row) (bytes : List ℕ) wher
                   };
             }
 
-      lists-other : (o .key ≡ x .key → ⊥) → Lists s (r .key) (entered r chosen) (Wait.For x) (bytes ++ waitBytes (Wait.For o) s)
-      unfolding entered
+      lists-other : (o .key ≡ x .key → ⊥) → Lists s (r .key) (enteredRow r chosen) (Wait.For x) (bytes ++ waitBytes (Wait.For o) s)
+      unfolding enteredRow
       lists-other z =
           let n : r .key ≡ old .key → ⊥ = keys z in
           let less : old .key < r .key = omega (arith, l .waiting .late) in
@@ -158,7 +158,7 @@ module _ (s : List ℕ) (rs chosen : List Row) (x : Chosen) (r : Row) (v : Versi
   last-is e l = rw (last-snoc 0 rs r, e) l
 
   pub step-kept : (wait : Wait) (sc : Scan) (bytes : List ℕ) → sc .wait ≡ wait → Kept s rs chosen wait bytes
-      → Kept s (rs ++ (r ∷ [])) (entered r chosen) (stepFrom wait sc x .wait) (bytes ++ pushedBy wait x s)
+      → Kept s (rs ++ (r ∷ [])) (enteredRow r chosen) (stepFrom wait sc x .wait) (bytes ++ pushedBy wait x s)
   step-kept Wait.Nothing sc bytes e k =
       record {
         few = omega (arith, k .few, longer, ap length (append-nil bytes));
@@ -167,7 +167,7 @@ module _ (s : List ℕ) (rs chosen : List Row) (x : Chosen) (r : Row) (v : Versi
   step-kept (Wait.For o) sc bytes e k = by-tests (eqb (o .key) (x .key)) (ltb (o .creator) (x .creator)) refl refl
     where
       by-tests : (a b : Bool) → eqb (o .key) (x .key) ≡ a → ltb (o .creator) (x .creator) ≡ b
-          → Kept s (rs ++ (r ∷ [])) (entered r chosen) (pick a (pick b (waitingFor x (sc .size)) sc) (waitingFor x (sc .size + recordSize o)) .wait)
+          → Kept s (rs ++ (r ∷ [])) (enteredRow r chosen) (pick a (pick b (waitingFor x (sc .size)) sc) (waitingFor x (sc .size + recordSize o)) .wait)
           (bytes ++ pick a [] (waitBytes (Wait.For o) s))
       by-tests true true e₁ e₂ =
           record {

@@ -11,14 +11,14 @@ use lib.Dec.{ltb, eqb}
 use lib.ListN.{length}
 use Rattle.store.specs.Part.{part, put}
 use Rattle.store.specs.Pick.{pick}
-use Rattle.store.proofs.PartLaws.{length-part}
-use Rattle.store.proofs.PutLaws.{put-nil, length-put}
 use Rattle.row.specs.Write.{recordBytes}
-use Rattle.list_records.specs.Listed.{written}
-use Rattle.list_visible.specs.Fast.{recordSize, waitingFor, stepFrom, waitSize, fullSize, waitBytes, pushedBy, Whole, Waits}
+use Rattle.call_answers.specs.Answer.{written}
+use Rattle.list_visible.specs.Steps.Fast.{recordSize, waitingFor, stepFrom, waitSize, fullSize, waitBytes, pushedBy, Whole, Waits}
 use Rattle.list_visible.specs.declared.pass.Chosen.{Chosen}
 use Rattle.list_visible.specs.declared.pass.Wait.{Wait}
 use Rattle.list_visible.specs.declared.pass.Scan.{Scan}
+use Rattle.store.proofs.PartLaws.{length-part}
+use Rattle.store.proofs.PutLaws.{put-nil, length-put}
 use Rattle.list_visible.proofs.Standing.{length-record}
 
 -- ---- what waits

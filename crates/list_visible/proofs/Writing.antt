@@ -10,23 +10,23 @@ use lib.ListN.{length, length-append}
 use Rattle.store.specs.Le.{leAt}
 use Rattle.store.specs.Part.{put}
 use Rattle.store.specs.Pick.{pick}
-use Rattle.store.proofs.PutLaws.{put-nil, length-put, put-after-at}
 use Rattle.page.specs.Page.{page}
 use Rattle.page.specs.Header.{cellCount}
 use Rattle.page.specs.Key.{rankAt}
-use Rattle.page.proofs.PageLaws.{page-short}
 use Rattle.row.specs.Read.{stampIn, cellAt}
 use Rattle.row.specs.declared.Cell.{Cell}
 use Rattle.row.specs.declared.read.CellRead.{CellRead}
-use Rattle.row.proofs.Exact.{cell-placed}
 use Rattle.mvcc.specs.Rules.{visible}
-use Rattle.mvcc.specs.declared.Current.{Current}
 use Rattle.leaf.specs.Cells.{cellsOf, cells, foldCells}
-use Rattle.list_records.specs.Listed.{Written, written}
-use Rattle.list_visible.specs.Fast.{chosenOf, recordSize, waitingFor, stepFrom, scanned, scanLeaf, waitBytes, pushedBy, pushed, pushedAll, passLeaf, WasJudged, Waits}
+use Rattle.call_answers.specs.Answer.{written, Written}
+use Rattle.list_visible.specs.Steps.Fast.{chosenOf, recordSize, waitingFor, stepFrom, scanned, scanLeaf, waitBytes, pushedBy, pushed, pushedAll, passLeaf, WasJudged, Waits}
 use Rattle.list_visible.specs.declared.pass.Chosen.{Chosen}
 use Rattle.list_visible.specs.declared.pass.Wait.{Wait}
 use Rattle.list_visible.specs.declared.pass.Scan.{Scan}
+use Rattle.mvcc.specs.Snapshot.{Snapshot}
+use Rattle.store.proofs.PutLaws.{put-nil, length-put, put-after-at}
+use Rattle.page.proofs.PageLaws.{page-short}
+use Rattle.row.proofs.Exact.{cell-placed}
 use Rattle.list_visible.proofs.Stepping.{length-wait, both}
 use Rattle.list_visible.proofs.Going.{Going, going-start, Turn, turn-visible, turn-chosen}
 use Rattle.list_visible.proofs.Measuring.{scanned-wait}
@@ -58,10 +58,10 @@ module _ (p : ℕ) (s : List ℕ) (sc : Scan) where
       by-tests true false = omega arith
       by-tests false b = rw (length-wait (Wait.For o) s w)
 
-  pub scanned-size : (st : ℕ → ℕ) (active : List ℕ) (xmax : ℕ) (cur : Current) (x : Cell) → Waits (sc .wait) s
-      → scanned st active xmax cur p sc x .size ≡ sc .size + length (pushed st active xmax cur p sc x s)
+  pub scanned-size : (sn : Snapshot) (st : ℕ → ℕ) (x : Cell) → Waits (sc .wait) s
+      → scanned sn st p sc x .size ≡ sc .size + length (pushed sn st p sc x s)
   unfolding scanned pushed
-  scanned-size st active xmax cur x w = by-seen (visible st active xmax cur (x .version .creator) (x .version .stamp))
+  scanned-size sn st x w = by-seen (visible sn st (x .version .creator) (x .version .stamp))
     where
       by-seen : (b : Bool) → pick b (stepFrom (sc .wait) sc (chosenOf p x)) sc .size ≡ sc .size + length (pick b (pushedBy (sc .wait) (chosenOf p x) s) [])
       by-seen true = step-size (chosenOf p x) (sc .wait) w
@@ -69,24 +69,24 @@ module _ (p : ℕ) (s : List ℕ) (sc : Scan) where
 
 -- ---- the loop over the leaf
 
-module _ (st : ℕ → ℕ) (active : List ℕ) (xmax : ℕ) (cur : Current) (p : ℕ) (s : List ℕ) where
+module _ (sn : Snapshot) (st : ℕ → ℕ) (p : ℕ) (s : List ℕ) where
   -- what the turn did
-  module _ (sc : Scan) (out : List ℕ) {n at : ℕ} {pg : List ℕ} (t : Turn p n at pg) {b : Bool} (u : b ≡ visible st active xmax cur (leAt 8 pg (at + 8 + 1)) (stampIn pg (at + 8 + 9))) where
+  module _ (sc : Scan) (out : List ℕ) {n at : ℕ} {pg : List ℕ} (t : Turn p n at pg) {b : Bool} (u : b ≡ visible sn st (leAt 8 pg (at + 8 + 1)) (stampIn pg (at + 8 + 9))) where
     pub turn-pushed : {end : ℕ} {r : Chosen} {d f : Scan} {y z : List ℕ} → b ≡ true → end ≡ at + 8 + leAt 4 pg (at + 4)
         → r ≡ record { from = p * 4096 + at; to = p * 4096 + end; key = rankAt pg at; creator = leAt 8 pg (at + 8 + 1) }
         → written f z ≡ written (stepFrom (sc .wait) sc r) (put (sc .size) (pushedBy (sc .wait) r s) out) → y ≡ z → d ≡ f
-        → written d y ≡ written (scanned st active xmax cur p sc (t .cell)) (put (sc .size) (pushed st active xmax cur p sc (t .cell) s) out)
+        → written d y ≡ written (scanned sn st p sc (t .cell)) (put (sc .size) (pushed sn st p sc (t .cell) s) out)
     unfolding scanned pushed
     turn-pushed h e q w v₁ v₂ =
         both v₂ v₁
         ∙ (w
         ∙ (ap (λ (x : Chosen). written (stepFrom (sc .wait) sc x) (put (sc .size) (pushedBy (sc .wait) x s) out)) (turn-chosen t e q)
-        ∙ rw (sym (turn-visible t st active xmax cur u) ∙ h)))
+        ∙ rw (sym (turn-visible t sn st u) ∙ h)))
 
     pub turn-passed : {d : Scan} {y : List ℕ} → b ≡ false → y ≡ out → d ≡ sc
-        → written d y ≡ written (scanned st active xmax cur p sc (t .cell)) (put (sc .size) (pushed st active xmax cur p sc (t .cell) s) out)
+        → written d y ≡ written (scanned sn st p sc (t .cell)) (put (sc .size) (pushed sn st p sc (t .cell) s) out)
     unfolding scanned pushed
-    turn-passed h v₁ v₂ = both v₂ (v₁ ∙ sym (put-nil (sc .size) out)) ∙ rw (sym (turn-visible t st active xmax cur u) ∙ h)
+    turn-passed h v₁ v₂ = both v₂ (v₁ ∙ sym (put-nil (sc .size) out)) ∙ rw (sym (turn-visible t sn st u) ∙ h)
 
   -- with n cells left from `at` on, into an output of length l
   pub record Writing (l : ℕ) (goal : Written Scan) (pg : List ℕ) (n at : ℕ) (sc : Scan) (out : List ℕ) : Type 0 where
@@ -94,14 +94,14 @@ module _ (st : ℕ → ℕ) (active : List ℕ) (xmax : ℕ) (cur : Current) (p 
     pub within : at ≤ 4096
     pub waits : Waits (sc .wait) s
     pub long : length out ≡ l
-    pub room : sc .size + length (pushedAll st active xmax cur p sc (cellsOf n at pg) s) ≤ l
-    pub few : sc .size + length (pushedAll st active xmax cur p sc (cellsOf n at pg) s) ≤ 9223372036854775807
-    pub same : written (foldCells (scanned st active xmax cur p) sc (cellsOf n at pg)) (put (sc .size) (pushedAll st active xmax cur p sc (cellsOf n at pg) s) out) ≡ goal
+    pub room : sc .size + length (pushedAll sn st p sc (cellsOf n at pg) s) ≤ l
+    pub few : sc .size + length (pushedAll sn st p sc (cellsOf n at pg) s) ≤ 9223372036854775807
+    pub same : written (foldCells (scanned sn st p) sc (cellsOf n at pg)) (put (sc .size) (pushedAll sn st p sc (cellsOf n at pg) s) out) ≡ goal
 
   pub writing-start : (sc : Scan) (out : List ℕ) {pg : List ℕ} {n : ℕ} → pg ≡ page p s → n ≡ cellCount pg → WasJudged p (page p s) → Waits (sc .wait) s
-      → sc .size + length (pushedAll st active xmax cur p sc (cells (page p s)) s) ≤ length out
-      → sc .size + length (pushedAll st active xmax cur p sc (cells (page p s)) s) ≤ 9223372036854775807
-      → Writing (length out) (passLeaf st active xmax cur p sc s out) pg n 12 sc out
+      → sc .size + length (pushedAll sn st p sc (cells (page p s)) s) ≤ length out
+      → sc .size + length (pushedAll sn st p sc (cells (page p s)) s) ≤ 9223372036854775807
+      → Writing (length out) (passLeaf s p sn st sc out) pg n 12 sc out
   unfolding passLeaf scanLeaf
   writing-start sc out here count d w r f =
       rw (count, here) (record { going = going-start p (page p s) d; within = omega arith; waits = w; long = refl; room = r; few = f; same = refl })
@@ -113,49 +113,49 @@ module _ (st : ℕ → ℕ) (active : List ℕ) (xmax : ℕ) (cur : Current) (p 
 
     module _ (t : Turn p n at pg) where
       abbrev pushes : List ℕ
-      pushes = pushed st active xmax cur p sc (t .cell) s
+      pushes = pushed sn st p sc (t .cell) s
 
       abbrev later : List ℕ
-      later = pushedAll st active xmax cur p (scanned st active xmax cur p sc (t .cell)) (cellsOf (n - 1) (t .cell .next) pg) s
+      later = pushedAll sn st p (scanned sn st p sc (t .cell)) (cellsOf (n - 1) (t .cell .next) pg) s
 
       -- what is pushed now comes first
-      split : pushedAll st active xmax cur p sc (cellsOf n at pg) s ≡ pushes ++ later
+      split : pushedAll sn st p sc (cellsOf n at pg) s ≡ pushes ++ later
       unfolding pushedAll
       split = rw (t .more)
 
       fits : sc .size + (length pushes + length later) ≤ l
       fits = let k = length-append pushes later in omega (arith, w .room, ap length split)
 
-      pub writing-fits : {end : ℕ} {r : Chosen} {b : Bool} → b ≡ visible st active xmax cur (leAt 8 pg (at + 8 + 1)) (stampIn pg (at + 8 + 9)) → b ≡ true
+      pub writing-fits : {end : ℕ} {r : Chosen} {b : Bool} → b ≡ visible sn st (leAt 8 pg (at + 8 + 1)) (stampIn pg (at + 8 + 9)) → b ≡ true
           → end ≡ at + 8 + leAt 4 pg (at + 4)
           → r ≡ record { from = p * 4096 + at; to = p * 4096 + end; key = rankAt pg at; creator = leAt 8 pg (at + 8 + 1) } → sc .size + length (pushedBy (sc .wait) r s) ≤ length out
       unfolding pushed
       writing-fits u h e q =
-          let seen = sym (turn-visible t st active xmax cur u) ∙ h in
-          let is : pushed st active xmax cur p sc (t .cell) s ≡ pushedBy (sc .wait) (chosenOf p (t .cell)) s = rw seen in
+          let seen = sym (turn-visible t sn st u) ∙ h in
+          let is : pushed sn st p sc (t .cell) s ≡ pushedBy (sc .wait) (chosenOf p (t .cell)) s = rw seen in
           let m = ap (λ (x : Chosen). length (pushedBy (sc .wait) x s)) (turn-chosen t e q) in
           omega (arith, fits, w .long, m, ap length is)
 
       pub writing-turn : (used : ℕ) {end : ℕ} {d : Scan} {y : List ℕ} → used * 4096 ≤ length s → p < used → pg ≡ page p s → length pg ≡ 4096 → end ≡ at + 8 + leAt 4 pg (at + 4)
-          → written d y ≡ written (scanned st active xmax cur p sc (t .cell)) (put (sc .size) pushes out) → Writing l goal pg (n - 1) end d y
+          → written d y ≡ written (scanned sn st p sc (t .cell)) (put (sc .size) pushes out) → Writing l goal pg (n - 1) end d y
       unfolding foldCells
       writing-turn used {end} {d} {y} room h here long e u =
           let next : end ≡ t .cell .next = e ∙ sym (t .next-is) in
-          let a : d ≡ scanned st active xmax cur p sc (t .cell) = ap (λ (z : Written Scan). z .answer) u in
+          let a : d ≡ scanned sn st p sc (t .cell) = ap (λ (z : Written Scan). z .answer) u in
           let b : y ≡ put (sc .size) pushes out = ap (λ (z : Written Scan). z .output) u in
-          let f = scanned st active xmax cur p sc (t .cell) in
-          let size : f .size ≡ sc .size + length pushes = scanned-size p s sc st active xmax cur (t .cell) (w .waits) in
+          let f = scanned sn st p sc (t .cell) in
+          let size : f .size ≡ sc .size + length pushes = scanned-size p s sc sn st (t .cell) (w .waits) in
           let k = length-append pushes later in
           let some : sc .size + length pushes ≤ length out = omega (arith, fits, w .long) in
-          let all : written (foldCells (scanned st active xmax cur p) f (cellsOf (n - 1) (t .cell .next) pg)) (put (sc .size) (pushes ++ later) out) ≡ goal
+          let all : written (foldCells (scanned sn st p) f (cellsOf (n - 1) (t .cell .next) pg)) (put (sc .size) (pushes ++ later) out) ≡ goal
           = rw (split, t .more) at (w .same) in
           rw (next, a, b)
           (record {
             going = t .going;
             within = omega (arith, t .inside);
-            waits = scanned-wait st active xmax cur p sc (t .cell) (λ v. Waits v s) (w .waits) (cell-waits used p at s room h (rw here at (t .read)));
+            waits = scanned-wait sn st p sc (t .cell) (λ v. Waits v s) (w .waits) (cell-waits used p at s room h (rw here at (t .read)));
             long = length-put (sc .size) pushes out some ∙ w .long;
             room = omega (arith, fits, size);
             few = omega (arith, w .few, ap length split, size);
-            same = ap (λ (o : List ℕ). written (foldCells (scanned st active xmax cur p) f (cellsOf (n - 1) (t .cell .next) pg)) o) (put-after-at (sc .size) (f .size) pushes later out (omega arith) size) ∙ all;
+            same = ap (λ (o : List ℕ). written (foldCells (scanned sn st p) f (cellsOf (n - 1) (t .cell .next) pg)) o) (put-after-at (sc .size) (f .size) pushes later out (omega arith) size) ∙ all;
           })

@@ -9,11 +9,13 @@ ghost use Rattle.store.specs.Part.{put};
 ghost use Rattle.page.specs.Key.{rankAt};
 ghost use Rattle.page.specs.Page.{page};
 ghost use Rattle.row.specs.Read.{stampSize, stampIn};
-ghost use Rattle.mvcc.specs.Lists.{rising, lookup, Judged};
+ghost use Rattle.mvcc.specs.Lists.{rising};
+ghost use Rattle.mvcc.specs.Snapshot.{lookup, snapshot, statuses};
+ghost use Rattle.mvcc.specs.Steps.Snapshot.{StatusesJudged};
 ghost use Rattle.mvcc.specs.Rules.{visible};
 ghost use Rattle.leaf.specs.Cells.{cells};
-ghost use Rattle.list_records.specs.Listed.{written};
-ghost use Rattle.list_visible.specs.Fast.{recordSize, waitingFor, stepFrom, scanLeaf, fullSize, waitBytes, pushedBy, pushedAll, passLeaf, passAlong, passBytes, passed, WasJudged, Whole, Waits, Through, Fits};
+ghost use Rattle.call_answers.specs.Answer.{written};
+ghost use Rattle.list_visible.specs.Steps.Fast.{recordSize, waitingFor, stepFrom, scanLeaf, fullSize, waitBytes, pushedBy, pushedAll, passLeaf, passAlong, passBytes, passed, WasJudged, Whole, Waits, Through, PassFits};
 use mvcc::Current;
 
 // A version that is chosen for its key: where its cell lies in the pool.
@@ -57,19 +59,19 @@ fn chosen_at(pg: &[u8], base: usize, at: usize, end: usize) -> Chosen
 
 fn visible_at(
     pg: &[u8],
+    xmax: u64,
+    active: &[u64],
+    cur: Current,
     ids: &[u64],
     states: &[u8],
-    active: &[u64],
-    xmax: u64,
-    cur: Current,
     at: usize,
 ) -> bool
-    requires { ⌜ Judged (now ids) (now states) × (rising (now active) ≡ true) × (at + 8 + 9 + stampSize (leAt 1 (now pg) (at + 8 + 9)) ≤ length (now pg)) ⌝ }
-    ensures { λ r. ⌜ r ≡ visible (lookup (now (ids .entry)) (now (states .entry))) (now (active .entry)) xmax cur (leAt 8 (now (pg .entry)) (at + 8 + 1)) (stampIn (now (pg .entry)) (at + 8 + 9)) ⌝ }
+    requires { ⌜ StatusesJudged (statuses (now ids) (now states)) × (rising (now active) ≡ true) × (at + 8 + 9 + stampSize (leAt 1 (now pg) (at + 8 + 9)) ≤ length (now pg)) ⌝ }
+    ensures { λ r. ⌜ r ≡ visible (snapshot xmax (now (active .entry)) cur) (lookup (statuses (now (ids .entry)) (now (states .entry)))) (leAt 8 (now (pg .entry)) (at + 8 + 1)) (stampIn (now (pg .entry)) (at + 8 + 9)) ⌝ }
 {
     let creator = row::read::creator_at(pg, at);
     let stamp = row::read::stamp_at(pg, at);
-    mvcc::is_visible(ids, states, active, xmax, cur, creator, stamp)
+    mvcc::is_visible(xmax, active, cur, ids, states, creator, stamp)
 }
 
 fn waits(x: Chosen, size: usize) -> Scan
@@ -143,26 +145,26 @@ fn full_size(sc: Scan) -> usize
 
 fn measure_leaf(
     pool: &[u8],
-    ids: &[u64],
-    states: &[u8],
-    active: &[u64],
-    xmax: u64,
-    cur: Current,
     used: u32,
     p: u32,
+    xmax: u64,
+    active: &[u64],
+    cur: Current,
+    ids: &[u64],
+    states: &[u8],
     sc: Scan,
 ) -> Scan
-    requires { ⌜ (used * 4096 ≤ length (now pool)) × (p < used) × Judged (now ids) (now states) × (rising (now active) ≡ true) × WasJudged p (page p (now pool)) × Whole (sc .wait) × (sc .size ≤ 4611686018427387904) ⌝ }
-    ensures { λ r. ⌜ r ≡ scanLeaf (lookup (now (ids .entry)) (now (states .entry))) (now (active .entry)) xmax cur p sc (page p (now (pool .entry))) ⌝ }
+    requires { ⌜ (used * 4096 ≤ length (now pool)) × (p < used) × StatusesJudged (statuses (now ids) (now states)) × (rising (now active) ≡ true) × WasJudged p (page p (now pool)) × Whole (sc .wait) × (sc .size ≤ 4611686018427387904) ⌝ }
+    ensures { λ r. ⌜ r ≡ scanLeaf (page p (now (pool .entry))) p (snapshot xmax (now (active .entry)) cur) (lookup (statuses (now (ids .entry)) (now (states .entry)))) sc ⌝ }
 {
     let pg = page::pool::page_of(pool, p);
     let base = p as usize * page::PAGE_SIZE;
     let mut left = page::get_cell_count(pg) as usize;
-    let mut at = 12;
+    let mut at = page::HEADER_SIZE;
     let mut here = sc;
     while 0 < left {
         let end = row::read::next_at(pg, at);
-        if visible_at(pg, ids, states, active, xmax, cur, at) {
+        if visible_at(pg, xmax, active, cur, ids, states, at) {
             here = step(here, chosen_at(pg, base, at, end));
         }
         at = end;
@@ -174,16 +176,16 @@ fn measure_leaf(
 // The length of the listing, where the output may be too short for it.
 pub fn measure(
     pool: &[u8],
-    ids: &[u64],
-    states: &[u8],
-    active: &[u64],
-    xmax: u64,
-    cur: Current,
     used: u32,
     first: u32,
+    xmax: u64,
+    active: &[u64],
+    cur: Current,
+    ids: &[u64],
+    states: &[u8],
 ) -> usize
-    requires { ⌜ (used * 4096 ≤ length (now pool)) × Judged (now ids) (now states) × (rising (now active) ≡ true) × Through (passAlong (lookup (now ids) (now states)) (now active) xmax cur used first (now pool)) (now pool) ⌝ }
-    ensures { λ r. ⌜ r ≡ length (passBytes (now (pool .entry)) (passAlong (lookup (now (ids .entry)) (now (states .entry))) (now (active .entry)) xmax cur used first (now (pool .entry)))) ⌝ }
+    requires { ⌜ (used * 4096 ≤ length (now pool)) × StatusesJudged (statuses (now ids) (now states)) × (rising (now active) ≡ true) × Through (passAlong (now pool) used first (snapshot xmax (now active) cur) (lookup (statuses (now ids) (now states)))) (now pool) ⌝ }
+    ensures { λ r. ⌜ r ≡ length (passBytes (now (pool .entry)) (passAlong (now (pool .entry)) used first (snapshot xmax (now (active .entry)) cur) (lookup (statuses (now (ids .entry)) (now (states .entry)))))) ⌝ }
 {
     let mut p = first;
     let mut here = Scan {
@@ -195,7 +197,7 @@ pub fn measure(
         if used <= p {
             return 0;
         }
-        here = measure_leaf(pool, ids, states, active, xmax, cur, used, p, here);
+        here = measure_leaf(pool, used, p, xmax, active, cur, ids, states, here);
         p = page::get_next_leaf(page::pool::page_of(pool, p));
         if p == 0 {
             return full_size(here);
@@ -207,27 +209,27 @@ pub fn measure(
 
 fn write_leaf(
     pool: &[u8],
-    out: &mut [u8],
-    ids: &[u64],
-    states: &[u8],
-    active: &[u64],
-    xmax: u64,
-    cur: Current,
     used: u32,
     p: u32,
+    xmax: u64,
+    active: &[u64],
+    cur: Current,
+    ids: &[u64],
+    states: &[u8],
+    out: &mut [u8],
     sc: Scan,
 ) -> Scan
-    requires { ⌜ (used * 4096 ≤ length (now pool)) × (p < used) × Judged (now ids) (now states) × (rising (now active) ≡ true) × WasJudged p (page p (now pool)) × Waits (sc .wait) (now pool) × (sc .size + length (pushedAll (lookup (now ids) (now states)) (now active) xmax cur p sc (cells (page p (now pool))) (now pool)) ≤ length (now out)) × (sc .size + length (pushedAll (lookup (now ids) (now states)) (now active) xmax cur p sc (cells (page p (now pool))) (now pool)) ≤ 9223372036854775807) ⌝ }
-    ensures { λ r. ⌜ written r (now (out .exit)) ≡ passLeaf (lookup (now (ids .entry)) (now (states .entry))) (now (active .entry)) xmax cur p sc (now (pool .entry)) (now (out .entry)) ⌝ }
+    requires { ⌜ (used * 4096 ≤ length (now pool)) × (p < used) × StatusesJudged (statuses (now ids) (now states)) × (rising (now active) ≡ true) × WasJudged p (page p (now pool)) × Waits (sc .wait) (now pool) × (sc .size + length (pushedAll (snapshot xmax (now active) cur) (lookup (statuses (now ids) (now states))) p sc (cells (page p (now pool))) (now pool)) ≤ length (now out)) × (sc .size + length (pushedAll (snapshot xmax (now active) cur) (lookup (statuses (now ids) (now states))) p sc (cells (page p (now pool))) (now pool)) ≤ 9223372036854775807) ⌝ }
+    ensures { λ r. ⌜ written r (now (out .exit)) ≡ passLeaf (now (pool .entry)) p (snapshot xmax (now (active .entry)) cur) (lookup (statuses (now (ids .entry)) (now (states .entry)))) sc (now (out .entry)) ⌝ }
 {
     let pg = page::pool::page_of(pool, p);
     let base = p as usize * page::PAGE_SIZE;
     let mut left = page::get_cell_count(pg) as usize;
-    let mut at = 12;
+    let mut at = page::HEADER_SIZE;
     let mut here = sc;
     while 0 < left {
         let end = row::read::next_at(pg, at);
-        if visible_at(pg, ids, states, active, xmax, cur, at) {
+        if visible_at(pg, xmax, active, cur, ids, states, at) {
             here = push(pool, out, here, chosen_at(pg, base, at, end));
         }
         at = end;
@@ -239,17 +241,17 @@ fn write_leaf(
 // The listing, for which there is room, and its length.
 pub fn write_scan(
     pool: &[u8],
-    out: &mut [u8],
-    ids: &[u64],
-    states: &[u8],
-    active: &[u64],
-    xmax: u64,
-    cur: Current,
     used: u32,
     first: u32,
+    xmax: u64,
+    active: &[u64],
+    cur: Current,
+    ids: &[u64],
+    states: &[u8],
+    out: &mut [u8],
 ) -> usize
-    requires { ⌜ (used * 4096 ≤ length (now pool)) × Judged (now ids) (now states) × (rising (now active) ≡ true) × Fits (passAlong (lookup (now ids) (now states)) (now active) xmax cur used first (now pool)) (now pool) (now out) ⌝ }
-    ensures { λ r. ⌜ written r (now (out .exit)) ≡ passed (passBytes (now (pool .entry)) (passAlong (lookup (now (ids .entry)) (now (states .entry))) (now (active .entry)) xmax cur used first (now (pool .entry)))) (now (out .entry)) ⌝ }
+    requires { ⌜ (used * 4096 ≤ length (now pool)) × StatusesJudged (statuses (now ids) (now states)) × (rising (now active) ≡ true) × PassFits (passAlong (now pool) used first (snapshot xmax (now active) cur) (lookup (statuses (now ids) (now states)))) (now pool) (now out) ⌝ }
+    ensures { λ r. ⌜ written r (now (out .exit)) ≡ passed (passBytes (now (pool .entry)) (passAlong (now (pool .entry)) used first (snapshot xmax (now (active .entry)) cur) (lookup (statuses (now (ids .entry)) (now (states .entry)))))) (now (out .entry)) ⌝ }
 {
     let mut p = first;
     let mut here = Scan {
@@ -261,7 +263,7 @@ pub fn write_scan(
         if used <= p {
             return 0;
         }
-        here = write_leaf(pool, out, ids, states, active, xmax, cur, used, p, here);
+        here = write_leaf(pool, used, p, xmax, active, cur, ids, states, out, here);
         p = page::get_next_leaf(page::pool::page_of(pool, p));
         if p == 0 {
             let wait = here.wait;

@@ -15,34 +15,34 @@ use Rattle.page.specs.declared.pool.State.{State}
 use Rattle.row.specs.declared.Cell.{Cell}
 use Rattle.row.specs.declared.Stamp.{Stamp}
 use Rattle.row.specs.declared.Pointer.{Pointer}
-use Rattle.mvcc.specs.Lists.{lookup, goodActive, goodStatuses}
-use Rattle.mvcc.specs.Rules.{plainXmax, plainActive}
+use Rattle.mvcc.specs.Snapshot.{lookup, goodStatuses, creatorOf, Snapshot, Statuses, goodSnapshot, plainSnapshot}
 use Rattle.mvcc.specs.declared.Current.{Current}
 use Rattle.leaf.specs.Rows.{Row, RowFits, rowOf, rowSize, rowBytes}
 use Rattle.leaf.specs.declared.find.Best.{Best}
 use Rattle.tree.specs.declared.ChainBest.{ChainBest}
 use Rattle.tree.specs.declared.ChainTest.{ChainTest}
 use Rattle.tree_grow.specs.Grow.{Grown, grown}
-use Rattle.tree_room.specs.Room.{noFault}
+use Rattle.row.specs.Fault.{noFault}
 use Rattle.tree_insert.specs.Insert.{insertedAt}
-use Rattle.tree_insert.specs.Ready.{creatorOf, ready, notReady, onReady, readyByRoom}
+use Rattle.tree_insert.specs.Ready.{ready, notReady, onReady, readyByRoom}
 use Rattle.tree_insert.specs.declared.ready.Ready.{Ready}
 use Rattle.tree_stamp.specs.Target.{targetOf}
 use Rattle.tree_stamp.specs.Ready.{marking, notMarking, markingByRoom, markingAt}
 use Rattle.tree_stamp.specs.declared.ready.Marking.{Marking}
-use Rattle.call_read.specs.Find.{plain, lookedBest, findVisibleRun}
-use Rattle.call_read.specs.declared.Looked.{Looked}
-use Rattle.call_insert.specs.Answer.{changedTo, stays, hideEnd}
+use Rattle.call_read.specs.Find.{lookedBest, findVisibleRun}
+use Rattle.call_answers.specs.Answer.{refusalOf, hideStateEnd}
+use Rattle.call_answers.specs.declared.Looked.{Looked}
+use Rattle.call_insert.specs.Answer.{stays, changedTo}
 use Rattle.call_insert.specs.Insert.{insertVersionRun, insertVersionCall, insertRun, insertCall}
 use Rattle.call_stamp.specs.Mark.{onLooked, conflictTold, markReady, marked, markRun, markCall}
 use Rattle.call_stamp.specs.Claim.{claimReady, claimRun, claimCall}
 use Rattle.theory_tree.specs.Shape.{Shape, chain}
 use Rattle.theory_tree.specs.Versions.{SameVersions, arrivals, best}
-use Rattle.theory_walks.proofs.Looking.{rowIn, Standing, StandsBy, BestIs, test-is}
 use Rattle.meaning.specs.Trees.{TreeIn}
 use Rattle.meaning.specs.Change.{Change, inserts, insertsVersion, stamps, claims, removes, Fits, Ran, ranTo, run, Roomy}
 use Rattle.meaning.specs.Meant.{Meant, refusedAs, doneWith, seenBy, arriving, onBest, stamped, conflictIn, liveRow, meantInsert, meantVersion, meantMark, meantClaim, meant}
 use Rattle.meaning.specs.Demand.{Does, Effect}
+use Rattle.theory_walks.proofs.Looking.{rowIn, Standing, StandsBy, BestIs, test-is}
 use Rattle.meaning.proofs.Last.{some-is}
 use Rattle.meaning.proofs.Reading.{found}
 use Rattle.meaning.proofs.Judging.{room-roomy, spotFor, insertPlanned, insertRoom, version-ready, insert-ready, targetFor, stampPlanned, stampRoom, marking-at}
@@ -84,7 +84,7 @@ module _ (g : Grown) (t : Shape) (tree : TreeIn g t) where
   -- ---- a new version
 
   abbrev inserting : List ℕ → Ready → Ran
-  inserting b x = ranTo st (hideEnd (onReady (λ x plan. changedTo (insertedAt x plan b (grown s st))) (stays s) x))
+  inserting b x = ranTo st (hideStateEnd (onReady (λ x plan. changedTo (insertedAt x plan b (grown s st))) (stays s) x))
 
   module _ (r : Row) (fits : RowFits r) (B : AreBytes (r .body)) where
     by-room : (b : Bool) → eqb (insertRoom g t tree r (fits .key) (rowSize r)) 0 ≡ b
@@ -103,12 +103,12 @@ module _ (g : Grown) (t : Shape) (tree : TreeIn g t) where
   -- ---- a stamp
 
   abbrev marks : (d : ℕ) → Marking → Ran
-  marks d x = ranTo st (hideEnd (marked s st d x))
+  marks d x = ranTo st (hideStateEnd (marked s st d x))
 
-  module _ (claiming : Bool) (key d xmax : ℕ) (active : List ℕ) (cur : Current) (ids states : List ℕ) (low : d < 18446744073709551616) (more : ℕ → Bool)
-      (told : (seen : ℕ) → conflictTold claiming s st key xmax active cur ids states seen ≡ ChainTest.Ok (more seen)) where
+  module _ (claiming : Bool) (key d : ℕ) (sn : Snapshot) (ss : Statuses) (low : d < 18446744073709551616) (more : ℕ → Bool)
+      (told : (seen : ℕ) → conflictTold s st key sn ss claiming seen ≡ ChainTest.Ok (more seen)) where
     abbrev v : Row → Bool
-    v = seenBy (lookup ids states) active xmax cur
+    v = seenBy sn (lookup ss)
 
     module _ (p : ℕ) (c : Cell) (here : Standing v key s t p c) where
       abbrev row : Row
@@ -133,27 +133,27 @@ module _ (g : Grown) (t : Shape) (tree : TreeIn g t) where
 
     abbrev markOn : Looked → Marking
     markOn x =
-        onLooked (λ p c. markingAt s st (conflictTold claiming s st key xmax active cur ids states (c .version .creator)) (targetOf p c (page p s)))
+        onLooked (λ p c. markingAt s st (conflictTold s st key sn ss claiming (c .version .creator)) (targetOf p c (page p s)))
         (λ r. notMarking (r .number) (r .fault)) x
 
-    by-found : (b : Best) → StandsBy (lookup ids states) active xmax cur key s t b → RoomComes (markMeant (rowIn s b)) (marks d (markOn (lookedBest (ChainBest.Ok b))))
+    by-found : (b : Best) → StandsBy sn (lookup ss) key s t b → RoomComes (markMeant (rowIn s b)) (marks d (markOn (lookedBest (ChainBest.Ok b))))
     by-found Best.Nothing z = refused-comes 8
     by-found (Best.At p c) z = rw (told (c .version .creator), marking-at g t tree v key p c z (more (c .version .creator))) (by-more p c z (more (c .version .creator)))
 
-    found-it : BestIs (lookup ids states) active xmax cur key s (st .root) (st .used) t
-    found-it = found g t tree key xmax active cur ids states
+    found-it : BestIs sn (lookup ss) key s (st .root) (st .used) t
+    found-it = found g t tree key sn ss
 
     by-lists : (a b : Bool) → RoomComes (pick a (pick b (markMeant (best v key l)) (refusedAs 4 l)) (refusedAs 3 l))
-        (marks d (markOn (pick a (pick b (lookedBest (ChainBest.Ok (found-it .found))) (Looked.Refused (plain 4))) (Looked.Refused (plain 3)))))
+        (marks d (markOn (pick a (pick b (lookedBest (ChainBest.Ok (found-it .found))) (Looked.Refused (refusalOf 4))) (Looked.Refused (refusalOf 3)))))
     by-lists true true =
         subst (λ (o : Option Row). RoomComes (markMeant o) (marks d (markOn (lookedBest (ChainBest.Ok (found-it .found)))))) (found-it .row)
         (by-found (found-it .found) (found-it .stands))
     by-lists true false = refused-comes 4
     by-lists false b = refused-comes 3
 
-    mark-comes : RoomComes (meantMark (λ y. more (y .creator)) key d xmax active cur ids states l) (marks d (markReady claiming s st key xmax active cur ids states))
+    mark-comes : RoomComes (meantMark key sn ss d (λ y. more (y .creator)) l) (marks d (markReady s st key sn ss claiming))
     unfolding meantMark markReady findVisibleRun
-    mark-comes = rw (tree .good, found-it .told) (by-lists (goodActive active) (goodStatuses ids states))
+    mark-comes = rw (tree .good, found-it .told) (by-lists (goodSnapshot sn) (goodStatuses ss))
 
   -- ---- the four calls
 
@@ -174,7 +174,7 @@ module _ (g : Grown) (t : Shape) (tree : TreeIn g t) where
     unfolding meant meantVersion run insertVersionCall insertVersionRun
     version-comes = rw (version-ready g t tree new (fits .0) stamp pointer (length body)) (by-length (leb (length body) 4051) refl)
 
-  module _ (key : ℕ) (body : List ℕ) (cur : Current) (ids states : List ℕ) (fits : Fits (inserts key body cur ids states)) where
+  module _ (key : ℕ) (body : List ℕ) (cur : Current) (ss : Statuses) (fits : Fits (inserts key cur ss body)) where
     abbrev live : Row
     live = liveRow key (creatorOf cur) body
 
@@ -193,54 +193,54 @@ module _ (g : Grown) (t : Shape) (tree : TreeIn g t) where
     by-tests true false e o = refused-comes 5
     by-tests false b e o = refused-comes 4
 
-    insert-call : RoomComes (meant (inserts key body cur ids states) l) (run (inserts key body cur ids states) g)
+    insert-call : RoomComes (meant (inserts key cur ss body) l) (run (inserts key cur ss body) g)
     unfolding meant meantInsert run insertCall insertRun
     insert-call =
-        rw (insert-ready g t tree live (fits .0) cur ids states refl (length body))
-        (by-tests (goodStatuses ids states) (leb (length body) 4051) refl (best (seenBy (lookup ids states) plainActive plainXmax cur) key l))
+        rw (insert-ready g t tree live (fits .0) cur ss refl (length body))
+        (by-tests (goodStatuses ss) (leb (length body) 4051) refl (best (seenBy (plainSnapshot cur) (lookup ss)) key l))
 
-  module _ (key d xmax : ℕ) (active : List ℕ) (cur : Current) (ids states : List ℕ) (fits : Fits (stamps key d xmax active cur ids states)) where
-    stamp-call : RoomComes (meant (stamps key d xmax active cur ids states) l) (run (stamps key d xmax active cur ids states) g)
+  module _ (key d : ℕ) (sn : Snapshot) (ss : Statuses) (fits : Fits (stamps key sn ss d)) where
+    stamp-call : RoomComes (meant (stamps key sn ss d) l) (run (stamps key sn ss d) g)
     unfolding meant run markCall markRun
-    stamp-call = mark-comes false key d xmax active cur ids states (fits .1) (λ seen. false) (λ seen. refl)
+    stamp-call = mark-comes false key d sn ss (fits .1) (λ seen. false) (λ seen. refl)
 
-  module _ (key xmax : ℕ) (active : List ℕ) (cur : Current) (ids states : List ℕ) (fits : Fits (claims key xmax active cur ids states)) where
-    pub conflict-told : (seen : ℕ) → conflictTold true s st key xmax active cur ids states seen ≡ ChainTest.Ok (conflictIn (lookup ids states) active xmax cur seen key l)
+  module _ (key : ℕ) (sn : Snapshot) (ss : Statuses) (fits : Fits (claims key sn ss)) where
+    pub conflict-told : (seen : ℕ) → conflictTold s st key sn ss true seen ≡ ChainTest.Ok (conflictIn key sn (lookup ss) seen l)
     conflict-told seen =
-        test-is true (lookup ids states) active xmax cur seen key s (st .root) (st .used) t (tree .formed) ∙ ap (λ (b : Bool). ChainTest.Ok b) (sym (some-is _ l))
+        test-is true sn (lookup ss) seen key s (st .root) (st .used) t (tree .formed) ∙ ap (λ (b : Bool). ChainTest.Ok b) (sym (some-is _ l))
 
     by-current : (b : Bool)
         → RoomComes
         (pick b (refusedAs 3 l)
-        (meantMark (λ y. conflictIn (lookup ids states) active xmax cur (y .creator) key l) key (creatorOf cur) xmax active cur ids states l))
-        (marks (creatorOf cur) (pick b (notMarking 3 noFault) (markReady true s st key xmax active cur ids states)))
+        (meantMark key sn ss (creatorOf (sn .current)) (λ y. conflictIn key sn (lookup ss) (y .creator) l) l))
+        (marks (creatorOf (sn .current)) (pick b (notMarking 3 noFault) (markReady s st key sn ss true)))
     by-current true = refused-comes 3
     by-current false =
-        mark-comes true key (creatorOf cur) xmax active cur ids states (fits .1) (λ seen. conflictIn (lookup ids states) active xmax cur seen key l) conflict-told
+        mark-comes true key (creatorOf (sn .current)) sn ss (fits .1) (λ seen. conflictIn key sn (lookup ss) seen l) conflict-told
 
-    claim-call : RoomComes (meant (claims key xmax active cur ids states) l) (run (claims key xmax active cur ids states) g)
+    claim-call : RoomComes (meant (claims key sn ss) l) (run (claims key sn ss) g)
     unfolding meant meantClaim run claimCall claimRun claimReady
-    claim-call = rw (tree .good) (by-current (eqb (creatorOf cur) 0))
+    claim-call = rw (tree .good) (by-current (eqb (creatorOf (sn .current)) 0))
 
 pub effect-version : (key creator : ℕ) (stamp : Stamp) (pointer : Pointer) (body : List ℕ) → EffectOf (insertsVersion key creator stamp pointer body)
 effect-version key creator stamp pointer body g t tree fits room =
     does (insertsVersion key creator stamp pointer body) g t (version-comes g t tree key creator stamp pointer body fits room)
 
-pub effect-insert : (key : ℕ) (body : List ℕ) (cur : Current) (ids states : List ℕ) → EffectOf (inserts key body cur ids states)
-effect-insert key body cur ids states g t tree fits room = does (inserts key body cur ids states) g t (insert-call g t tree key body cur ids states fits room)
+pub effect-insert : (key : ℕ) (body : List ℕ) (cur : Current) (ss : Statuses) → EffectOf (inserts key cur ss body)
+effect-insert key body cur ss g t tree fits room = does (inserts key cur ss body) g t (insert-call g t tree key body cur ss fits room)
 
-pub effect-stamp : (key d xmax : ℕ) (active : List ℕ) (cur : Current) (ids states : List ℕ) → EffectOf (stamps key d xmax active cur ids states)
-effect-stamp key d xmax active cur ids states g t tree fits room =
-    does (stamps key d xmax active cur ids states) g t (stamp-call g t tree key d xmax active cur ids states fits room)
+pub effect-stamp : (key d : ℕ) (sn : Snapshot) (ss : Statuses) → EffectOf (stamps key sn ss d)
+effect-stamp key d sn ss g t tree fits room =
+    does (stamps key sn ss d) g t (stamp-call g t tree key d sn ss fits room)
 
-pub effect-claim : (key xmax : ℕ) (active : List ℕ) (cur : Current) (ids states : List ℕ) → EffectOf (claims key xmax active cur ids states)
-effect-claim key xmax active cur ids states g t tree fits room =
-    does (claims key xmax active cur ids states) g t (claim-call g t tree key xmax active cur ids states fits room)
+pub effect-claim : (key : ℕ) (sn : Snapshot) (ss : Statuses) → EffectOf (claims key sn ss)
+effect-claim key sn ss g t tree fits room =
+    does (claims key sn ss) g t (claim-call g t tree key sn ss fits room)
 
 -- all five, with what a remove does
 pub effect-from : ((key : ℕ) → EffectOf (removes key)) → Effect
-effect-from removing (inserts key body cur ids states) = effect-insert key body cur ids states
+effect-from removing (inserts key cur ss body) = effect-insert key body cur ss
 effect-from removing (insertsVersion key creator stamp pointer body) = effect-version key creator stamp pointer body
-effect-from removing (stamps key d xmax active cur ids states) = effect-stamp key d xmax active cur ids states
-effect-from removing (claims key xmax active cur ids states) = effect-claim key xmax active cur ids states
+effect-from removing (stamps key sn ss d) = effect-stamp key d sn ss
+effect-from removing (claims key sn ss) = effect-claim key sn ss
 effect-from removing (removes key) = removing key

@@ -6,15 +6,15 @@ use Prim.Native.Nat.{ℕ}
 use lib.ListN.{length}
 use Rattle.page.specs.Pool.{goodPool}
 use Rattle.tree_grow.specs.Grow.{Grown}
-use Rattle.call_read.specs.Answer.{Outcome, Ended}
+use Rattle.call_answers.specs.Answer.{Ended, Outcome}
 use Rattle.theory_tree.specs.Shape.{Shape}
-use Rattle.theory_clean.proofs.Removing.{Removes, remove-does}
-use Rattle.theory_clean.proofs.Vacuuming.{Vacuums, vacuum-does}
 use Rattle.meaning.specs.Trees.{TreeIn}
 use Rattle.meaning.specs.Change.{removes, run}
 use Rattle.meaning.specs.Meant.{meant, meantRemove}
 use Rattle.meaning.specs.Demand.{Does}
 use Rattle.meaning.specs.Reads.{VacuumCleans}
+use Rattle.theory_clean.proofs.Removing.{Removes, remove-does}
+use Rattle.theory_clean.proofs.Vacuuming.{Vacuums, vacuum-does}
 
 -- a pool of the same length is as good
 pub still-good : (g : Grown) (s : List ℕ) → length s ≡ length (g .pool) → goodPool (g .pool) (g .state) ≡ true → goodPool s (g .state) ≡ true
@@ -22,8 +22,8 @@ unfolding goodPool
 still-good g s e h = rw e h
 
 pub vacuum-cleans : VacuumCleans
-vacuum-cleans g t bound ids states tree lists =
-    let v : Vacuums (g .pool) (g .state) bound ids states t = vacuum-does (g .pool) (g .state) t (tree .bytes) (tree .good) (tree .formed) bound ids states lists in
+vacuum-cleans g t bound ss tree lists =
+    let v : Vacuums (g .pool) (g .state) bound ss t = vacuum-does (g .pool) (g .state) t (tree .bytes) (tree .good) (tree .formed) bound ss lists in
     record {
       count = ap (λ (e : Ended (Outcome ℕ)). e .answer) (v .answer);
       shape = v .tree;

@@ -1,7 +1,7 @@
 -- Demand 3, both halves, and what it rests on, put together. Assumes nothing.
-use mathlib.Core.List.{[], _∷_}
+use Rattle.mvcc.specs.Snapshot.{noStatuses}
 use Rattle.meaning.specs.Demand.{Effect, Commute, FirstClaims}
-use Rattle.meaning.specs.Example.{SecondWarned}
+use Rattle.meaning.specs.Example.{SecondWarned, teacher}
 use Rattle.meaning.proofs.RefusingWrites.{writes-refuse}
 use Rattle.meaning.proofs.Reading.{lookup-is}
 use Rattle.meaning.proofs.Changing.{effect-from}
@@ -20,5 +20,5 @@ first-claims = first-from effect lookup-is writes-refuse
 
 pub second-warned : SecondWarned
 second-warned x =
-    first-claims (x .pool) (x .shape) 7 20 20 15 16 (15 ∷ 16 ∷ []) (15 ∷ 16 ∷ []) [] [] (x .tree) (x .first-fits) (x .second-fits) (x .apart) (x .second-after)
+    first-claims (x .pool) (x .shape) 7 (teacher 15) (teacher 16) noStatuses (x .tree) (x .first-fits) (x .second-fits) (x .apart) (x .second-after)
     (x .first-after) (x .first-done) (x .second-done) (x .same)

@@ -10,9 +10,9 @@ use Rattle.tree.specs.Distinct.{distinct}
 use Rattle.tree_grow.specs.Grow.{grown}
 use Rattle.theory_tree.specs.Pages.{Pages, leafPage, innerPage, withPage}
 use Rattle.theory_tree.specs.View.{view}
-use Rattle.theory_tree.specs.Shape.{Shape, leaf, node, pair, pages, Deep, WellFormed}
-use Rattle.theory_check.proofs.Hanging.{none-twice}
+use Rattle.theory_tree.specs.Shape.{Shape, leaf, node, pair, pagesIn, Deep, WellFormed}
 use Rattle.meaning.specs.Example.{ManyLevels}
+use Rattle.theory_check.proofs.Hanging.{none-twice}
 use Rattle.meaning.proofs.ExistingPools.{rowFor, row-made, inner-made, Pool, blank-pool, with-made, pool-tree}
 
 -- ---- two levels: page 2 over the leaves 0 and 1
@@ -43,7 +43,7 @@ formed₂ w =
       bounds = omega arith;
       small = omega arith;
       later = (tt, (λ e. omega arith), tt);
-      distinct = none-twice (pages shape₂) refl;
+      distinct = none-twice (pagesIn shape₂) refl;
       below = omega arith;
     }
 
@@ -93,7 +93,7 @@ formed₃ w =
       bounds = omega arith;
       small = omega arith;
       later = ((tt, (λ e. omega arith), tt), (λ e. omega arith), (tt, (λ e. omega arith), tt));
-      distinct = none-twice (pages shape₃) refl;
+      distinct = none-twice (pagesIn shape₃) refl;
       below = omega arith;
     }
 

@@ -11,20 +11,15 @@ use borrow.Author.Tests.{le-ltb}
 use Rattle.store.specs.Part.{zeros}
 use Rattle.page.specs.Page.{page}
 use Rattle.page.specs.declared.pool.State.{State}
-use Rattle.page.proofs.PageLaws.{length-page}
-use Rattle.page.proofs.PoolLaws.{pool-is}
 use Rattle.row.specs.declared.Cell.{Cell}
 use Rattle.row.specs.declared.Stamp.{Stamp}
-use Rattle.mvcc.specs.Lists.{risingFrom, rising, areStates, mem, lookup, goodActive, goodStatuses}
+use Rattle.mvcc.specs.Lists.{stateAt, risingFrom, rising, areStates, mem, goodActive}
+use Rattle.mvcc.specs.Snapshot.{lookup, goodStatuses, snapshot, noStatuses}
 use Rattle.mvcc.specs.Rules.{isCurrent, ofDeleter, finishedWith, finishedBefore, visible, changedAfter, conflicting, claimConflicting}
 use Rattle.mvcc.specs.declared.Current.{Current}
 use Rattle.leaf.specs.Cells.{cells, foldCells}
 use Rattle.leaf.specs.Find.{newest}
 use Rattle.leaf.specs.Rows.{Row, rowOf, rows, rowsBytes}
-use Rattle.leaf.proofs.Bytes.{bytes-page}
-use Rattle.leaf.proofs.Chain.{judged-leaf}
-use Rattle.leaf.proofs.RowFacts.{rows-fill}
-use Rattle.leaf.proofs.Rowing.{endOf, length-rows}
 use Rattle.tree.specs.Climb.{pathOf}
 use Rattle.tree.specs.declared.ChainTest.{ChainTest}
 use Rattle.tree_grow.specs.Grow.{Grown, grown}
@@ -33,21 +28,30 @@ use Rattle.tree_stamp.specs.Target.{besideOf, targetOf}
 use Rattle.tree_stamp.specs.Stamp.{longer, bytesStamped, cutStamped, stampPlan}
 use Rattle.tree_stamp.specs.Ready.{markingAt}
 use Rattle.call_read.specs.Find.{findVisibleRun}
-use Rattle.call_read.specs.declared.Looked.{Looked}
+use Rattle.call_answers.specs.declared.Looked.{Looked}
 use Rattle.call_stamp.specs.Mark.{conflictTold, markReady}
 use Rattle.call_stamp.specs.Claim.{claimReady, claimRun, claimCall}
 use Rattle.theory_tree.specs.Pages.{Pages, leafPage, withPage}
 use Rattle.theory_tree.specs.View.{view}
 use Rattle.theory_tree.specs.Shape.{Shape, leaf, WellFormed}
+use Rattle.meaning.specs.Trees.{TreeIn}
+use Rattle.meaning.specs.Meant.{liveRow}
+use Rattle.meaning.specs.Change.{claims, run}
+use Rattle.meaning.specs.Example.{TwoClaimants, teacher}
+use Rattle.page.proofs.PageLaws.{length-page}
+use Rattle.page.proofs.PoolLaws.{pool-is}
+use Rattle.leaf.proofs.Bytes.{bytes-page}
+use Rattle.leaf.proofs.Chain.{judged-leaf}
+use Rattle.leaf.proofs.RowFacts.{rows-fill}
+use Rattle.leaf.proofs.Rowing.{endOf, length-rows}
 use Rattle.theory_tree.proofs.Contexts.{top}
 use Rattle.theory_walks.proofs.Walking.{AtLeaf, at-leaf}
 use Rattle.theory_walks.proofs.Looking.{best-told, test-is}
-use Rattle.meaning.specs.Trees.{TreeIn}
-use Rattle.meaning.specs.Change.{run}
-use Rattle.meaning.specs.Example.{TwoClaimants}
 use Rattle.meaning.proofs.Judging.{leaf-planned}
-use Rattle.meaning.proofs.Example.{running, seat, claimBy}
 use Rattle.meaning.proofs.ExistingPools.{row-made, Pool, blank-pool, with-made, pool-tree}
+
+abbrev seat : Row
+seat = liveRow 7 5 (1 ∷ 2 ∷ [])
 
 -- ---- a leaf of one row has one cell
 
@@ -112,20 +116,20 @@ module _ (g : Grown) (tree : TreeIn g alone) where
   creator = ap (λ (r : Row). r .creator) (one .is)
 
   -- by a transaction that sees the row, meets no conflict and is not 0
-  module _ (n : ℕ) (sees : visible (lookup [] []) running 20 (Current.Tx n) 5 Stamp.Absent ≡ true) where
-    finds : findVisibleRun (g .pool) (g .state) 7 20 running (Current.Tx n) [] [] ≡ Looked.At 0 (one .cell)
+  module _ (n : ℕ) (sees : visible (teacher n) (lookup noStatuses) 5 Stamp.Absent ≡ true) where
+    finds : findVisibleRun (g .pool) (g .state) 7 (teacher n) noStatuses ≡ Looked.At 0 (one .cell)
     unfolding findVisibleRun goodActive goodStatuses risingFrom rising areStates foldCells newest
     finds =
-        let told = best-told (lookup [] []) running 20 (Current.Tx n) 7 (g .pool) root used alone (tree .formed) in
+        let told = best-told (teacher n) (lookup noStatuses) 7 (g .pool) root used alone (tree .formed) in
         let key : one .cell .key ≡ 7 = ap (λ (r : Row). r .key) (one .is) in
         let stamp : one .cell .version .stamp ≡ Stamp.Absent = ap (λ (r : Row). r .stamp) (one .is) in
         rw (tree .good, told, one .are, key, creator, stamp, sees)
 
-    module _ (free : claimConflicting (lookup [] []) running 20 (Current.Tx n) 5 5 Stamp.Absent ≡ false) (some : eqb n 0 ≡ false) where
-      unmet : conflictTold true (g .pool) (g .state) 7 20 running (Current.Tx n) [] [] 5 ≡ ChainTest.Ok false
-      unmet = test-is true (lookup [] []) running 20 (Current.Tx n) 5 7 (g .pool) root used alone (tree .formed) ∙ rw free
+    module _ (free : claimConflicting (teacher n) (lookup noStatuses) 5 5 Stamp.Absent ≡ false) (some : eqb n 0 ≡ false) where
+      unmet : conflictTold (g .pool) (g .state) 7 (teacher n) noStatuses true 5 ≡ ChainTest.Ok false
+      unmet = test-is true (teacher n) (lookup noStatuses) 5 7 (g .pool) root used alone (tree .formed) ∙ rw free
 
-      claims-it : run (claimBy n) g .number ≡ 0
+      claims-it : run (claims 7 (teacher n) noStatuses) g .number ≡ 0
       unfolding run claimCall claimRun claimReady markReady markingAt roomOf
       claims-it = rw (tree .good, some, finds, creator, unmet, plans)
 
@@ -156,7 +160,7 @@ seated : TreeIn (grown (two-pages .bytes) state) alone
 seated = pool-tree two-pages state alone (omega arith) (omega arith) (omega arith) (formed (view (zeros (2 * 4096))))
 
 pub two-claimants : TwoClaimants
-unfolding mem lookup isCurrent ofDeleter finishedWith finishedBefore visible changedAfter conflicting claimConflicting
+unfolding mem stateAt isCurrent ofDeleter finishedWith finishedBefore visible changedAfter conflicting claimConflicting
 two-claimants =
     record {
       pool = grown (two-pages .bytes) state;

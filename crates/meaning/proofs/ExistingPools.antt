@@ -8,29 +8,29 @@ use lib.ListN.{length, length-replicate}
 use borrow.Author.Tests.{le-leb}
 use Rattle.store.specs.Le.{AreBytes}
 use Rattle.store.specs.Part.{part, pad, zeros}
-use Rattle.store.proofs.LeLaws.{length-putAt, leAt-putAt, leAt-putAt-above}
 use Rattle.page.specs.Header.{nodeType, parentOf, nextLeaf, withNodeType, withIsRoot, withParent, withNextLeaf}
 use Rattle.page.specs.Key.{flip}
 use Rattle.page.specs.Page.{setPage}
 use Rattle.page.specs.declared.pool.State.{State}
-use Rattle.page.proofs.PageLaws.{length-setPage}
-use Rattle.page.proofs.PoolLaws.{pool-in-use}
 use Rattle.row.specs.declared.Pointer.{Pointer}
 use Rattle.row.specs.declared.Stamp.{Stamp}
 use Rattle.leaf.specs.Rows.{Row, AllFit, rowBytes, rowsBytes, writeRows}
-use Rattle.leaf.proofs.Rowing.{length-rows}
-use Rattle.inner_edit.specs.Edit.{topOf}
+use Rattle.inner_edit.specs.Edit.{topPage}
 use Rattle.tree_grow.specs.Grow.{grown}
 use Rattle.theory_tree.specs.Pages.{Page, leafPage, innerPage, Pages, withPage}
 use Rattle.theory_tree.specs.View.{said, view}
 use Rattle.theory_tree.specs.Shape.{Shape, WellFormed}
+use Rattle.meaning.specs.Trees.{TreeIn}
+use Rattle.meaning.specs.Meant.{liveRow}
+use Rattle.store.proofs.LeLaws.{length-putAt, leAt-putAt, leAt-putAt-above}
+use Rattle.page.proofs.PageLaws.{length-setPage}
+use Rattle.page.proofs.PoolLaws.{pool-in-use}
+use Rattle.leaf.proofs.Rowing.{length-rows}
 use Rattle.theory_tree.proofs.Workers.{setPar}
 use Rattle.theory_stores.proofs.Keeping.{bytes-more, bytes-none, bytes-append, bytes-zeros, bytes-field, bytes-part, bytes-pad, bytes-set-page, bytes-cell}
 use Rattle.theory_stores.proofs.Viewing.{view-set, said-parent, said-root}
 use Rattle.theory_stores.proofs.Rowing.{rows-long, said-rows}
 use Rattle.theory_stores.proofs.Entering.{top-long, said-top}
-use Rattle.meaning.specs.Trees.{TreeIn}
-use Rattle.meaning.specs.Meant.{liveRow}
 
 -- ---- pages
 
@@ -84,8 +84,8 @@ module _ (par nxt : ℕ) (p : par < 4294967296) (n : nxt < 4294967296) where
         says = said-root top (writeRows rs header) ∙ said-rows rs header header-long header-type fit few ∙ rw (header-parent, header-next);
       }
 
-bytes-over : (left sep right : ℕ) → AreBytes (topOf left sep right (zeros 4096))
-unfolding topOf
+bytes-over : (left sep right : ℕ) → AreBytes (topPage left sep right (zeros 4096))
+unfolding topPage
 bytes-over left sep right =
     bytes-field 4 _ 20 right (bytes-field 4 _ 16 (flip sep) (bytes-field 4 _ 12 left (bytes-field 2 _ 6 1 (bytes-field 1 _ 1 1 (bytes-zeros 4096)))))
 
@@ -101,7 +101,7 @@ inner-made top par left sep right p l s r =
     }
   where
     over : List ℕ
-    over = topOf left sep right (zeros 4096)
+    over = topPage left sep right (zeros 4096)
 
     over-long : length over ≡ 4096
     over-long = top-long left sep right (zeros 4096) blank-long

@@ -14,13 +14,11 @@ use Rattle.store.specs.Pick.{pick}
 use Rattle.page.specs.Header.{cellCount}
 use Rattle.page.specs.Page.{page, setPage}
 use Rattle.page.specs.declared.pool.State.{State}
-use Rattle.page.proofs.PageLaws.{page-setPage-other}
-use Rattle.page.proofs.PoolLaws.{pool-is}
 use Rattle.row.specs.declared.Cell.{Cell}
 use Rattle.row.specs.declared.Stamp.{Stamp}
 use Rattle.row.specs.declared.Pointer.{Pointer}
-use Rattle.mvcc.specs.Lists.{mem, lookup, goodActive, goodStatuses}
-use Rattle.mvcc.specs.Rules.{plainXmax, plainActive}
+use Rattle.mvcc.specs.Lists.{mem}
+use Rattle.mvcc.specs.Snapshot.{lookup, goodStatuses, creatorOf, Snapshot, Statuses, goodSnapshot, plainSnapshot}
 use Rattle.mvcc.specs.declared.Current.{Current}
 use Rattle.leaf.specs.Rows.{Row, RowFits, rowSize, rowBytes, rowsBytes, writeRows}
 use Rattle.leaf.specs.declared.find.Best.{Best}
@@ -30,11 +28,12 @@ use Rattle.tree.specs.declared.ChainBest.{ChainBest}
 use Rattle.tree.specs.declared.ChainTest.{ChainTest}
 use Rattle.tree_grow.specs.Grow.{Grown}
 use Rattle.tree_grow.specs.Plan.{divisionOf}
-use Rattle.tree_room.specs.Room.{noFault, dividing, roomOf}
+use Rattle.row.specs.Fault.{noFault}
+use Rattle.tree_room.specs.Room.{dividing, roomOf}
 use Rattle.tree_room.specs.Up.{dividedUp}
 use Rattle.tree_room.specs.declared.Planned.{Planned}
 use Rattle.tree_insert.specs.Insert.{bytesWith, cutWith, insertedAt}
-use Rattle.tree_insert.specs.Ready.{creatorOf, ready, notReady, onReady, readyByRoom}
+use Rattle.tree_insert.specs.Ready.{ready, notReady, onReady, readyByRoom}
 use Rattle.tree_insert.specs.declared.ready.Ready.{Ready}
 use Rattle.tree_insert.specs.declared.Spot.{Spot}
 use Rattle.tree_stamp.specs.Target.{targetOf}
@@ -42,14 +41,21 @@ use Rattle.tree_stamp.specs.Stamp.{bytesStamped, cutStamped, stampedAt}
 use Rattle.tree_stamp.specs.Ready.{marking, notMarking, markingByRoom, markingAt}
 use Rattle.tree_stamp.specs.declared.Target.{Target}
 use Rattle.tree_stamp.specs.declared.ready.Marking.{Marking}
-use Rattle.call_read.specs.Find.{plain, lookedBest, findVisibleRun}
-use Rattle.call_read.specs.declared.Looked.{Looked}
-use Rattle.call_insert.specs.Answer.{changedTo, stays}
+use Rattle.call_read.specs.Find.{lookedBest, findVisibleRun}
+use Rattle.call_answers.specs.Answer.{refusalOf}
+use Rattle.call_answers.specs.declared.Looked.{Looked}
+use Rattle.call_insert.specs.Answer.{stays, changedTo}
 use Rattle.call_insert.specs.Insert.{insertVersionRun, insertVersionCall, insertRun, insertCall}
 use Rattle.call_stamp.specs.Mark.{onLooked, conflictTold, markReady, marked, markRun, markCall}
 use Rattle.call_stamp.specs.Claim.{claimReady, claimRun, claimCall}
-use Rattle.theory_tree.specs.Shape.{Shape, leaf, chain, pages, KeysIn, Sorted}
+use Rattle.theory_tree.specs.Shape.{Shape, leaf, chain, pagesIn, KeysIn, Sorted}
 use Rattle.theory_tree.specs.Versions.{best}
+use Rattle.meaning.specs.Trees.{TreeIn}
+use Rattle.meaning.specs.Change.{Change, inserts, insertsVersion, stamps, claims, removes, Fits, run}
+use Rattle.meaning.specs.Meant.{seenBy, onBest, conflictIn, liveRow}
+use Rattle.meaning.specs.Frame.{Elsewhere, Framed}
+use Rattle.page.proofs.PageLaws.{page-setPage-other}
+use Rattle.page.proofs.PoolLaws.{pool-is}
 use Rattle.theory_tree.proofs.Contexts.{top-key, Ctx, plug, preG, postG, loC, hiC, place}
 use Rattle.theory_tree.proofs.Entries.{path}
 use Rattle.theory_tree.proofs.Insert.{way}
@@ -63,10 +69,6 @@ use Rattle.theory_plan.proofs.Leaves.{insert-fits-bytes, insert-cut}
 use Rattle.theory_plan.proofs.Stamps.{stampedRows, stamp-fits-bytes, stamp-cut}
 use Rattle.theory_grow.proofs.Framing.{divided-up-elsewhere}
 use Rattle.theory_clean.proofs.Framing.{remove-elsewhere, vacuum-elsewhere}
-use Rattle.meaning.specs.Trees.{TreeIn}
-use Rattle.meaning.specs.Change.{Change, inserts, insertsVersion, stamps, claims, removes, Fits, run}
-use Rattle.meaning.specs.Meant.{seenBy, onBest, conflictIn, liveRow}
-use Rattle.meaning.specs.Frame.{Elsewhere, Framed}
 use Rattle.meaning.proofs.Reading.{found}
 use Rattle.meaning.proofs.Judging.{spotFor, insertPlanned, insertRoom, version-ready, insert-ready, targetFor, stampPlanned, stampRoom, marking-at}
 use Rattle.meaning.proofs.Storing.{leaf-there, leaf-long, used-few}
@@ -96,9 +98,9 @@ module _ (g : Grown) (t : Shape) (tree : TreeIn g t) where
   -- ---- a leaf gets other rows
 
   module _ (c : Ctx) (p : ℕ) (old : List Row) (is : t ≡ plug c (leaf p old)) where
-    not-leaf : (x : ℕ) → mem x (pages t) ≡ false → x ≡ p → ⊥
+    not-leaf : (x : ℕ) → mem x (pagesIn t) ≡ false → x ≡ p → ⊥
     not-leaf x out e =
-        let own : mem p (pages t) ≡ true = rw (is, plug-pages c (leaf p old)) (mem-there p (preG c) (postG c)) in
+        let own : mem p (pagesIn t) ≡ true = rw (is, plug-pages c (leaf p old)) (mem-there p (preG c) (postG c)) in
         absurd (let z : _≡_ {A = ℕ} 0 1 = cc in omega arith)
 
     -- in its page
@@ -173,10 +175,10 @@ module _ (g : Grown) (t : Shape) (tree : TreeIn g t) where
   abbrev markedBy : (d : ℕ) → Marking → List ℕ
   markedBy d x = marked s st d x .pool
 
-  module _ (claiming : Bool) (key d xmax : ℕ) (active : List ℕ) (cur : Current) (ids states : List ℕ) (low : d < 18446744073709551616) (more : ℕ → Bool)
-      (told : (seen : ℕ) → conflictTold claiming s st key xmax active cur ids states seen ≡ ChainTest.Ok (more seen)) where
+  module _ (claiming : Bool) (key d : ℕ) (sn : Snapshot) (ss : Statuses) (low : d < 18446744073709551616) (more : ℕ → Bool)
+      (told : (seen : ℕ) → conflictTold s st key sn ss claiming seen ≡ ChainTest.Ok (more seen)) where
     abbrev v : Row → Bool
-    v = seenBy (lookup ids states) active xmax cur
+    v = seenBy sn (lookup ss)
 
     module _ (p : ℕ) (c : Cell) (here : Standing v key s t p c) where
       abbrev target : Target
@@ -223,25 +225,25 @@ module _ (g : Grown) (t : Shape) (tree : TreeIn g t) where
 
     abbrev markOn : Looked → Marking
     markOn x =
-        onLooked (λ p c. markingAt s st (conflictTold claiming s st key xmax active cur ids states (c .version .creator)) (targetOf p c (page p s)))
+        onLooked (λ p c. markingAt s st (conflictTold s st key sn ss claiming (c .version .creator)) (targetOf p c (page p s)))
         (λ r. notMarking (r .number) (r .fault)) x
 
-    by-found : (b : Best) → StandsBy (lookup ids states) active xmax cur key s t b → Apart (markedBy d (markOn (lookedBest (ChainBest.Ok b))))
+    by-found : (b : Best) → StandsBy sn (lookup ss) key s t b → Apart (markedBy d (markOn (lookedBest (ChainBest.Ok b))))
     by-found Best.Nothing z = all-stay
     by-found (Best.At p c) z = rw (told (c .version .creator), marking-at g t tree v key p c z (more (c .version .creator))) (by-more p c z (more (c .version .creator)))
 
-    found-it : BestIs (lookup ids states) active xmax cur key s (st .root) (st .used) t
-    found-it = found g t tree key xmax active cur ids states
+    found-it : BestIs sn (lookup ss) key s (st .root) (st .used) t
+    found-it = found g t tree key sn ss
 
     by-lists : (a b : Bool)
-        → Apart (markedBy d (markOn (pick a (pick b (lookedBest (ChainBest.Ok (found-it .found))) (Looked.Refused (plain 4))) (Looked.Refused (plain 3)))))
+        → Apart (markedBy d (markOn (pick a (pick b (lookedBest (ChainBest.Ok (found-it .found))) (Looked.Refused (refusalOf 4))) (Looked.Refused (refusalOf 3)))))
     by-lists true true = by-found (found-it .found) (found-it .stands)
     by-lists true false = all-stay
     by-lists false b = all-stay
 
-    mark-apart : Apart (markedBy d (markReady claiming s st key xmax active cur ids states))
+    mark-apart : Apart (markedBy d (markReady s st key sn ss claiming))
     unfolding markReady findVisibleRun
-    mark-apart = rw (tree .good, found-it .told) (by-lists (goodActive active) (goodStatuses ids states))
+    mark-apart = rw (tree .good, found-it .told) (by-lists (goodSnapshot sn) (goodStatuses ss))
 
   -- ---- the four calls
 
@@ -261,7 +263,7 @@ module _ (g : Grown) (t : Shape) (tree : TreeIn g t) where
     unfolding run insertVersionCall insertVersionRun
     version-apart = rw (version-ready g t tree new (fits .0) stamp pointer (length body)) (by-length (leb (length body) 4051) refl)
 
-  module _ (key : ℕ) (body : List ℕ) (cur : Current) (ids states : List ℕ) (fits : Fits (inserts key body cur ids states)) where
+  module _ (key : ℕ) (body : List ℕ) (cur : Current) (ss : Statuses) (fits : Fits (inserts key cur ss body)) where
     abbrev live : Row
     live = liveRow key (creatorOf cur) body
 
@@ -278,41 +280,41 @@ module _ (g : Grown) (t : Shape) (tree : TreeIn g t) where
     by-tests true false e o = all-stay
     by-tests false b e o = all-stay
 
-    new-apart : Apart (run (inserts key body cur ids states) g .after .pool)
+    new-apart : Apart (run (inserts key cur ss body) g .after .pool)
     unfolding run insertCall insertRun
     new-apart =
-        rw (insert-ready g t tree live (fits .0) cur ids states refl (length body))
-        (by-tests (goodStatuses ids states) (leb (length body) 4051) refl (best (seenBy (lookup ids states) plainActive plainXmax cur) key (chain t)))
+        rw (insert-ready g t tree live (fits .0) cur ss refl (length body))
+        (by-tests (goodStatuses ss) (leb (length body) 4051) refl (best (seenBy (plainSnapshot cur) (lookup ss)) key (chain t)))
 
-  module _ (key d xmax : ℕ) (active : List ℕ) (cur : Current) (ids states : List ℕ) (fits : Fits (stamps key d xmax active cur ids states)) where
-    stamp-apart : Apart (run (stamps key d xmax active cur ids states) g .after .pool)
+  module _ (key d : ℕ) (sn : Snapshot) (ss : Statuses) (fits : Fits (stamps key sn ss d)) where
+    stamp-apart : Apart (run (stamps key sn ss d) g .after .pool)
     unfolding run markCall markRun
-    stamp-apart = mark-apart false key d xmax active cur ids states (fits .1) (λ seen. false) (λ seen. refl)
+    stamp-apart = mark-apart false key d sn ss (fits .1) (λ seen. false) (λ seen. refl)
 
-  module _ (key xmax : ℕ) (active : List ℕ) (cur : Current) (ids states : List ℕ) (fits : Fits (claims key xmax active cur ids states)) where
-    by-current : (b : Bool) → Apart (markedBy (creatorOf cur) (pick b (notMarking 3 noFault) (markReady true s st key xmax active cur ids states)))
+  module _ (key : ℕ) (sn : Snapshot) (ss : Statuses) (fits : Fits (claims key sn ss)) where
+    by-current : (b : Bool) → Apart (markedBy (creatorOf (sn .current)) (pick b (notMarking 3 noFault) (markReady s st key sn ss true)))
     by-current true = all-stay
     by-current false =
-        mark-apart true key (creatorOf cur) xmax active cur ids states (fits .1) (λ seen. conflictIn (lookup ids states) active xmax cur seen key (chain t))
-        (conflict-told g t tree key xmax active cur ids states fits)
+        mark-apart true key (creatorOf (sn .current)) sn ss (fits .1) (λ seen. conflictIn key sn (lookup ss) seen (chain t))
+        (conflict-told g t tree key sn ss fits)
 
-    claim-apart : Apart (run (claims key xmax active cur ids states) g .after .pool)
+    claim-apart : Apart (run (claims key sn ss) g .after .pool)
     unfolding run claimCall claimRun claimReady
-    claim-apart = rw (tree .good) (by-current (eqb (creatorOf cur) 0))
+    claim-apart = rw (tree .good) (by-current (eqb (creatorOf (sn .current)) 0))
 
 -- ---- all five, and vacuum
 
 changed-apart : (a : Change) (g : Grown) (t : Shape) → TreeIn g t → Fits a → Elsewhere t (g .state .used) (g .pool) (run a g .after .pool)
 unfolding run
-changed-apart (inserts key body cur ids states) g t tree fits = new-apart g t tree key body cur ids states fits
+changed-apart (inserts key cur ss body) g t tree fits = new-apart g t tree key body cur ss fits
 changed-apart (insertsVersion key creator stamp pointer body) g t tree fits = version-apart g t tree key creator stamp pointer body fits
-changed-apart (stamps key d xmax active cur ids states) g t tree fits = stamp-apart g t tree key d xmax active cur ids states fits
-changed-apart (claims key xmax active cur ids states) g t tree fits = claim-apart g t tree key xmax active cur ids states fits
+changed-apart (stamps key sn ss d) g t tree fits = stamp-apart g t tree key d sn ss fits
+changed-apart (claims key sn ss) g t tree fits = claim-apart g t tree key sn ss fits
 changed-apart (removes key) g t tree fits = remove-elsewhere (g .pool) (g .state) t (tree .bytes) (tree .formed) key
 
 pub framed : Framed
 framed =
     record {
       changes = changed-apart;
-      vacuums = λ g t bound ids states tree. vacuum-elsewhere (g .pool) (g .state) t (tree .bytes) (tree .formed) bound ids states;
+      vacuums = λ g t bound ss tree. vacuum-elsewhere (g .pool) (g .state) t (tree .bytes) (tree .formed) bound ss;
     }

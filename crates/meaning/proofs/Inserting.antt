@@ -10,18 +10,20 @@ use Rattle.store.specs.Le.{AreBytes}
 use Rattle.store.specs.Part.{part}
 use Rattle.page.specs.Page.{page}
 use Rattle.page.specs.declared.pool.State.{State}
-use Rattle.page.proofs.PoolLaws.{pool-is}
 use Rattle.leaf.specs.Rows.{Row, RowFits, rowSize, rowBytes, rowsBytes, rows}
 use Rattle.leaf.specs.declared.place.Cut.{Cut}
-use Rattle.leaf.proofs.Bytes.{bytes-page}
 use Rattle.tree_grow.specs.Grow.{Grown}
 use Rattle.tree_grow.specs.Plan.{divisionOf}
 use Rattle.tree_room.specs.Room.{roomOf}
 use Rattle.tree_insert.specs.Insert.{bytesWith, cutWith, splicedAt, insertedAt}
 use Rattle.tree_insert.specs.declared.Spot.{Spot}
-use Rattle.tree_insert.proofs.Spotting.{SpotIs, spot-is}
 use Rattle.theory_tree.specs.Shape.{Shape, leaf, chain, KeysIn, Sorted}
 use Rattle.theory_tree.specs.Versions.{ofVersion, SameVersions}
+use Rattle.meaning.specs.Trees.{TreeIn}
+use Rattle.meaning.specs.Meant.{arriving}
+use Rattle.page.proofs.PoolLaws.{pool-is}
+use Rattle.leaf.proofs.Bytes.{bytes-page}
+use Rattle.tree_insert.proofs.Spotting.{SpotIs, spot-is}
 use Rattle.theory_tree.proofs.Contexts.{top-key, Ctx, plug, preC, postC, loC, hiC, place}
 use Rattle.theory_tree.proofs.Entries.{path}
 use Rattle.theory_tree.proofs.Order.{filt-app}
@@ -30,8 +32,6 @@ use Rattle.theory_stores.proofs.Keeping.{bytes-spliced, bytes-cell}
 use Rattle.theory_plan.proofs.Linking.{planAbove}
 use Rattle.theory_plan.proofs.Rooms.{room-told}
 use Rattle.theory_plan.proofs.Leaves.{insert-count, insert-all-fit, insert-spliced-is, insert-fits-bytes, insert-cut}
-use Rattle.meaning.specs.Trees.{TreeIn}
-use Rattle.meaning.specs.Meant.{arriving}
 use Rattle.meaning.proofs.Judging.{way-there, way-leaf, spotFor, spots, insertPlanned, insertRoom}
 use Rattle.meaning.proofs.Storing.{Holding, leaf-stored, leaf-divided}
 

@@ -15,8 +15,8 @@ use Rattle.row.specs.Write.{cellSize}
 use Rattle.row.specs.declared.Cell.{Cell}
 use Rattle.row.specs.declared.Pointer.{Pointer}
 use Rattle.row.specs.declared.Stamp.{Stamp}
-use Rattle.mvcc.specs.Lists.{mem, lookup, goodStatuses}
-use Rattle.mvcc.specs.Rules.{plainXmax, plainActive}
+use Rattle.mvcc.specs.Lists.{mem}
+use Rattle.mvcc.specs.Snapshot.{lookup, goodStatuses, creatorOf, Statuses, plainSnapshot}
 use Rattle.mvcc.specs.declared.Current.{Current}
 use Rattle.leaf.specs.Cells.{cells}
 use Rattle.leaf.specs.Place.{cutFits, placeOf, placeLeaf}
@@ -26,11 +26,12 @@ use Rattle.leaf.specs.declared.place.Cut.{Cut}
 use Rattle.tree.specs.declared.ChainTest.{ChainTest}
 use Rattle.tree_grow.specs.Grow.{Grown}
 use Rattle.tree_grow.specs.Plan.{pagesAsked}
-use Rattle.tree_room.specs.Room.{noFault, planned, tooDeep, leafPlan, roomOf}
+use Rattle.row.specs.Fault.{noFault}
+use Rattle.tree_room.specs.Room.{planned, growsTooDeep, leafPlan, roomOf}
 use Rattle.tree_room.specs.declared.Planned.{Planned}
 use Rattle.tree_insert.specs.Spot.{spotOf}
 use Rattle.tree_insert.specs.Insert.{bytesWith, cutWith, insertPlan}
-use Rattle.tree_insert.specs.Ready.{creatorOf, isSeen, notReady, readyByRoom, readyAt, versionAt, newAt}
+use Rattle.tree_insert.specs.Ready.{isSeen, notReady, readyByRoom, readyAt, versionAt, newAt}
 use Rattle.tree_insert.specs.declared.Spot.{Spot}
 use Rattle.tree_insert.specs.declared.Spotted.{Spotted}
 use Rattle.tree_stamp.specs.Target.{targetOf}
@@ -41,6 +42,8 @@ use Rattle.call_insert.specs.Insert.{versionReady, insertReady}
 use Rattle.theory_tree.specs.View.{view}
 use Rattle.theory_tree.specs.Shape.{Shape, leaf, chain, WellFormed}
 use Rattle.theory_tree.specs.Versions.{best}
+use Rattle.meaning.specs.Trees.{TreeIn}
+use Rattle.meaning.specs.Meant.{seenBy, onBest}
 use Rattle.theory_tree.proofs.Contexts.{Ctx, plug}
 use Rattle.theory_tree.proofs.Insert.{way, Way, way-ok}
 use Rattle.theory_walks.proofs.Descending.{descend-insert}
@@ -48,8 +51,6 @@ use Rattle.theory_walks.proofs.Walking.{AtLeaf, at-leaf}
 use Rattle.theory_walks.proofs.Looking.{rowIn, Standing, BestIs}
 use Rattle.theory_walks.proofs.Climbing.{climb-leaf}
 use Rattle.theory_plan.proofs.Linking.{planAbove, leafPlan-ok}
-use Rattle.meaning.specs.Trees.{TreeIn}
-use Rattle.meaning.specs.Meant.{seenBy, onBest}
 use Rattle.meaning.proofs.Reading.{found}
 
 -- ---- the room
@@ -58,7 +59,7 @@ use Rattle.meaning.proofs.Reading.{found}
 pub room-roomy : (pages : ℕ) (st : State) (t : ℕ) (x : Planned) → mem (roomOf pages st t x) (9 ∷ 10 ∷ 11 ∷ []) ≡ false → roomOf pages st t x ≡ 0
 unfolding roomOf mem
 room-roomy pages st t x e =
-    by-tests (x .over) (cutFits t (x .cut)) (tooDeep x) (leb (st .used + 1 + pagesAsked (st .root) (x .above)) pages) e
+    by-tests (x .over) (cutFits t (x .cut)) (growsTooDeep x) (leb (st .used + 1 + pagesAsked (st .root) (x .above)) pages) e
   where
     by-tests : (a b c d : Bool) → mem (pick a (pick b (pick c 11 (pick d 0 10)) 9) 0) (9 ∷ 10 ∷ 11 ∷ []) ≡ false
         → _≡_ {A = ℕ} (pick a (pick b (pick c 11 (pick d 0 10)) 9) 0) 0
@@ -96,7 +97,7 @@ module _ (g : Grown) (t : Shape) (tree : TreeIn g t) where
     abbrev pub spotFor : Spot
     spotFor = record { leaf = way r t .page; place = placeOf (r .key) (r .creator) (cells (page (way r t .page) s)); end = way-leaf .end }
 
-    pub spots : spotOf (st .used) (st .root) (r .key) (r .creator) s ≡ Spotted.Ok spotFor
+    pub spots : spotOf s (st .used) (st .root) (r .key) (r .creator) ≡ Spotted.Ok spotFor
     unfolding spotOf placeLeaf
     spots = rw (descend-insert s (st .root) (st .used) t (tree .formed) (r .key), way-leaf .judged)
 
@@ -119,17 +120,17 @@ module _ (g : Grown) (t : Shape) (tree : TreeIn g t) where
     unfolding versionReady versionAt
     version-ready stamp pointer len = rw (tree .good, spots, ready-at false (cellSize stamp pointer len))
 
-    module _ (cur : Current) (ids states : List ℕ) (by : r .creator ≡ creatorOf cur) where
+    module _ (cur : Current) (ss : Statuses) (by : r .creator ≡ creatorOf cur) where
       abbrev seen : Row → Bool
-      seen = seenBy (lookup ids states) plainActive plainXmax cur
+      seen = seenBy (plainSnapshot cur) (lookup ss)
 
-      new-at : (m : ℕ) → newAt s st (r .key) cur ids states m
+      new-at : (m : ℕ) → newAt s st (r .key) cur ss m
           ≡ onBest (readyByRoom spotFor (insertPlanned m) (insertRoom m)) (λ y. notReady 6 noFault) (best seen (r .key) (chain t))
       unfolding newAt
       new-at m = rw (← by, spots, found-it .told) (by-found (found-it .found) (best seen (r .key) (chain t)) (found-it .row))
         where
-          found-it : BestIs (lookup ids states) plainActive plainXmax cur (r .key) s (st .root) (st .used) t
-          found-it = found g t tree (r .key) plainXmax plainActive cur ids states
+          found-it : BestIs (plainSnapshot cur) (lookup ss) (r .key) s (st .root) (st .used) t
+          found-it = found g t tree (r .key) (plainSnapshot cur) ss
 
           by-found : (b : Best) (o : Option Row) → rowIn s b ≡ o
               → readyAt s st (isSeen b) spotFor m ≡ onBest (readyByRoom spotFor (insertPlanned m) (insertRoom m)) (λ y. notReady 6 noFault) o
@@ -138,8 +139,8 @@ module _ (g : Grown) (t : Shape) (tree : TreeIn g t) where
           by-found (Best.At p d) none e = absurd (let z : _≡_ {A = ℕ} 0 1 = cc in omega arith)
           by-found (Best.At p d) (some y) e = ready-at true m
 
-      pub insert-ready : (len : ℕ) → insertReady s st (r .key) cur ids states len
-          ≡ pick (goodStatuses ids states)
+      pub insert-ready : (len : ℕ) → insertReady s st (r .key) cur ss len
+          ≡ pick (goodStatuses ss)
           (pick (leb len 4051)
           (onBest (readyByRoom spotFor (insertPlanned (cellSize Stamp.Absent Pointer.Absent len)) (insertRoom (cellSize Stamp.Absent Pointer.Absent len))) (λ y. notReady 6 noFault)
           (best seen (r .key) (chain t)))

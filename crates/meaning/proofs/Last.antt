@@ -10,8 +10,8 @@ use Rattle.store.specs.Pick.{pick}
 use Rattle.leaf.specs.Rows.{Row}
 use Rattle.leaf_edit.specs.EditFacts.{stampRow}
 use Rattle.theory_tree.specs.Versions.{only, ofKey, ofVersion, arrivals, orElse, when, lastOf}
-use Rattle.theory_tree.proofs.Abs.{some?, some-same, wit-some}
 use Rattle.meaning.specs.Meant.{someOf, changeLast}
+use Rattle.theory_tree.proofs.Abs.{some?, some-same, wit-some}
 
 -- the theory of trees calls it `some?`
 pub some-is : (p : Row → Bool) (l : List Row) → someOf p l ≡ some? p l

@@ -11,8 +11,6 @@ pub mod Commuting
 pub mod Reading
 pub mod Second
 pub mod Claiming
-pub mod Example
-pub mod Answers
 pub mod Cleaning
 pub mod Visiting
 pub mod Telling

@@ -10,18 +10,16 @@ use lib.Dec.{leb, eqb}
 use lib.ListN.{length}
 use borrow.Author.Tests.{ne-eqb, eqb-true, eqb-false}
 use Rattle.store.specs.Pick.{pick}
-use Rattle.mvcc.specs.Lists.{lookup, goodActive, goodStatuses}
-use Rattle.mvcc.specs.Rules.{claimConflicting, plainXmax, plainActive}
+use Rattle.mvcc.specs.Snapshot.{lookup, goodStatuses, creatorOf, Snapshot, Statuses, goodSnapshot, plainSnapshot}
+use Rattle.mvcc.specs.Rules.{claimConflicting}
 use Rattle.mvcc.specs.declared.Current.{Current}
 use Rattle.leaf.specs.Rows.{Row}
-use Rattle.tree_insert.specs.Ready.{creatorOf}
 use Rattle.theory_tree.specs.Versions.{ofVersion, arrivals, best}
+use Rattle.meaning.specs.Change.{Change, inserts, insertsVersion, stamps, claims, removes, keyOf}
+use Rattle.meaning.specs.Meant.{Meant, refusedAs, doneWith, seenBy, arriving, onBest, stamped, liveRow, meantInsert, meantVersion, meantMark, meantClaim, meantRemove, meant}
 use Rattle.theory_tree.proofs.Order.{filt-app}
 use Rattle.theory_tree.proofs.Abs.{best-same, ver-remove, ver-removed}
 use Rattle.theory_tree.proofs.Count.{count-same}
-use Rattle.meaning.specs.Change.{Change, inserts, insertsVersion, stamps, claims, removes, keyOf}
-use Rattle.meaning.specs.Meant.{Meant, refusedAs, doneWith, seenBy, arriving, onBest, stamped, liveRow}
-use Rattle.meaning.specs.Meant.{meantInsert, meantVersion, meantMark, meantClaim, meantRemove, meant}
 use Rattle.meaning.proofs.Last.{some-alike, change-own, change-other}
 
 -- the same versions of the key k
@@ -91,15 +89,15 @@ module _ (v : Row → Bool) (key d : ℕ) (y : Row) where
 
 -- ---- the five calls
 
-pub insert-alike : (key : ℕ) (body : List ℕ) (cur : Current) (ids states : List ℕ) (l m : List Row) → SameOf key l m
-    → Alike key (meantInsert key body cur ids states l) (meantInsert key body cur ids states m)
+pub insert-alike : (key : ℕ) (body : List ℕ) (cur : Current) (ss : Statuses) (l m : List Row) → SameOf key l m
+    → Alike key (meantInsert key cur ss body l) (meantInsert key cur ss body m)
 unfolding meantInsert
-insert-alike key body cur ids states l m e =
-    pick-alike key (goodStatuses ids states) (pick-alike key (leb (length body) 4051) (rw (best-same v key l m e) (go (best v key m))) (refused-alike key 5 l m e))
+insert-alike key body cur ss l m e =
+    pick-alike key (goodStatuses ss) (pick-alike key (leb (length body) 4051) (rw (best-same v key l m e) (go (best v key m))) (refused-alike key 5 l m e))
     (refused-alike key 4 l m e)
   where
     v : Row → Bool
-    v = seenBy (lookup ids states) plainActive plainXmax cur
+    v = seenBy (plainSnapshot cur) (lookup ss)
 
     new : Row
     new = liveRow key (creatorOf cur) body
@@ -108,12 +106,12 @@ insert-alike key body cur ids states l m e =
     go none = refused-alike key 0 (arriving new l) (arriving new m) (arriving-alike new l m key e)
     go (some y) = refused-alike key 6 l m e
 
-pub insert-keeps : (key : ℕ) (body : List ℕ) (cur : Current) (ids states : List ℕ) (l : List Row) (j : ℕ) → (j ≡ key → ⊥)
-    → SameOf j (meantInsert key body cur ids states l .rows) l
+pub insert-keeps : (key : ℕ) (body : List ℕ) (cur : Current) (ss : Statuses) (l : List Row) (j : ℕ) → (j ≡ key → ⊥)
+    → SameOf j (meantInsert key cur ss body l .rows) l
 unfolding meantInsert
-insert-keeps key body cur ids states l j n =
-    pick-keeps j l (goodStatuses ids states) _ _
-    (pick-keeps j l (leb (length body) 4051) _ _ (go (best (seenBy (lookup ids states) plainActive plainXmax cur) key l)) (λ c. refl)) (λ c. refl)
+insert-keeps key body cur ss l j n =
+    pick-keeps j l (goodStatuses ss) _ _
+    (pick-keeps j l (leb (length body) 4051) _ _ (go (best (seenBy (plainSnapshot cur) (lookup ss)) key l)) (λ c. refl)) (λ c. refl)
   where
     go : (o : Option Row) → SameOf j (onBest (doneWith (arriving (liveRow key (creatorOf cur) body) l)) (λ y. refusedAs 6 l) o .rows) l
     go none = arriving-keeps (liveRow key (creatorOf cur) body) l j n
@@ -130,15 +128,15 @@ pub version-keeps : (r : Row) (l : List Row) (j : ℕ) → (j ≡ r .key → ⊥
 unfolding meantVersion
 version-keeps r l j n = pick-keeps j l (leb (length (r .body)) 4051) _ _ (arriving-keeps r l j n) (λ c. refl)
 
-module _ (key d xmax : ℕ) (active : List ℕ) (cur : Current) (ids states : List ℕ) where
+module _ (key d : ℕ) (sn : Snapshot) (ss : Statuses) where
   abbrev v : Row → Bool
-  v = seenBy (lookup ids states) active xmax cur
+  v = seenBy sn (lookup ss)
 
   pub mark-alike : (more more′ : Row → Bool) → ((y : Row) → more y ≡ more′ y) → (l m : List Row) → SameOf key l m
-      → Alike key (meantMark more key d xmax active cur ids states l) (meantMark more′ key d xmax active cur ids states m)
+      → Alike key (meantMark key sn ss d more l) (meantMark key sn ss d more′ m)
   unfolding meantMark
   mark-alike more more′ q l m e =
-      pick-alike key (goodActive active) (pick-alike key (goodStatuses ids states) (rw (best-same v key l m e) (go (best v key m))) (refused-alike key 4 l m e))
+      pick-alike key (goodSnapshot sn) (pick-alike key (goodStatuses ss) (rw (best-same v key l m e) (go (best v key m))) (refused-alike key 4 l m e))
       (refused-alike key 3 l m e)
     where
       go : (o : Option Row)
@@ -149,26 +147,26 @@ module _ (key d xmax : ℕ) (active : List ℕ) (cur : Current) (ids states : Li
           rw (q y) (pick-alike key (more′ y) (refused-alike key 7 l m e)
           (refused-alike key 0 (stamped v key d y l) (stamped v key d y m) (stamped-alike v key d y l m e)))
 
-  pub mark-keeps : (more : Row → Bool) (l : List Row) (j : ℕ) → (j ≡ key → ⊥) → SameOf j (meantMark more key d xmax active cur ids states l .rows) l
+  pub mark-keeps : (more : Row → Bool) (l : List Row) (j : ℕ) → (j ≡ key → ⊥) → SameOf j (meantMark key sn ss d more l .rows) l
   unfolding meantMark
   mark-keeps more l j n =
-      pick-keeps j l (goodActive active) _ _ (pick-keeps j l (goodStatuses ids states) _ _ (go (best v key l)) (λ c. refl)) (λ c. refl)
+      pick-keeps j l (goodSnapshot sn) _ _ (pick-keeps j l (goodStatuses ss) _ _ (go (best v key l)) (λ c. refl)) (λ c. refl)
     where
       go : (o : Option Row) → SameOf j (onBest (refusedAs 8 l) (λ y. pick (more y) (refusedAs 7 l) (doneWith (stamped v key d y l))) o .rows) l
       go none = λ c. refl
       go (some y) = pick-keeps j l (more y) _ _ (λ c. refl) (stamped-keeps v key d y l j n)
 
-module _ (key xmax : ℕ) (active : List ℕ) (cur : Current) (ids states : List ℕ) where
-  pub claim-alike : (l m : List Row) → SameOf key l m → Alike key (meantClaim key xmax active cur ids states l) (meantClaim key xmax active cur ids states m)
+module _ (key : ℕ) (sn : Snapshot) (ss : Statuses) where
+  pub claim-alike : (l m : List Row) → SameOf key l m → Alike key (meantClaim key sn ss l) (meantClaim key sn ss m)
   unfolding meantClaim
   claim-alike l m e =
-      pick-alike key (eqb (creatorOf cur) 0) (refused-alike key 3 l m e)
-      (mark-alike key (creatorOf cur) xmax active cur ids states _ _
-      (λ y. some-alike (λ x. claimConflicting (lookup ids states) active xmax cur (y .creator) (x .creator) (x .stamp)) key l m e) l m e)
+      pick-alike key (eqb (creatorOf (sn .current)) 0) (refused-alike key 3 l m e)
+      (mark-alike key (creatorOf (sn .current)) sn ss _ _
+      (λ y. some-alike (λ x. claimConflicting sn (lookup ss) (y .creator) (x .creator) (x .stamp)) key l m e) l m e)
 
-  pub claim-keeps : (l : List Row) (j : ℕ) → (j ≡ key → ⊥) → SameOf j (meantClaim key xmax active cur ids states l .rows) l
+  pub claim-keeps : (l : List Row) (j : ℕ) → (j ≡ key → ⊥) → SameOf j (meantClaim key sn ss l .rows) l
   unfolding meantClaim
-  claim-keeps l j n = pick-keeps j l (eqb (creatorOf cur) 0) _ _ (λ c. refl) (mark-keeps key (creatorOf cur) xmax active cur ids states _ l j n)
+  claim-keeps l j n = pick-keeps j l (eqb (creatorOf (sn .current)) 0) _ _ (λ c. refl) (mark-keeps key (creatorOf (sn .current)) sn ss _ l j n)
 
 pub remove-alike : (key : ℕ) (l m : List Row) → SameOf key l m → Alike key (meantRemove key l) (meantRemove key m)
 unfolding meantRemove
@@ -180,18 +178,18 @@ remove-keeps key l j n c = ver-remove j key c l n
 
 pub meant-alike : (a : Change) (l m : List Row) → SameOf (keyOf a) l m → Alike (keyOf a) (meant a l) (meant a m)
 unfolding meant
-meant-alike (inserts key body cur ids states) l m e = insert-alike key body cur ids states l m e
+meant-alike (inserts key cur ss body) l m e = insert-alike key body cur ss l m e
 meant-alike (insertsVersion key creator stamp pointer body) l m e =
     version-alike (record { key = key; creator = creator; stamp = stamp; pointer = pointer; body = body }) l m e
-meant-alike (stamps key d xmax active cur ids states) l m e = mark-alike key d xmax active cur ids states (λ y. false) (λ y. false) (λ y. refl) l m e
-meant-alike (claims key xmax active cur ids states) l m e = claim-alike key xmax active cur ids states l m e
+meant-alike (stamps key sn ss d) l m e = mark-alike key d sn ss (λ y. false) (λ y. false) (λ y. refl) l m e
+meant-alike (claims key sn ss) l m e = claim-alike key sn ss l m e
 meant-alike (removes key) l m e = remove-alike key l m e
 
 pub meant-keeps : (a : Change) (l : List Row) (j : ℕ) → (j ≡ keyOf a → ⊥) → SameOf j (meant a l .rows) l
 unfolding meant
-meant-keeps (inserts key body cur ids states) l j n = insert-keeps key body cur ids states l j n
+meant-keeps (inserts key cur ss body) l j n = insert-keeps key body cur ss l j n
 meant-keeps (insertsVersion key creator stamp pointer body) l j n =
     version-keeps (record { key = key; creator = creator; stamp = stamp; pointer = pointer; body = body }) l j n
-meant-keeps (stamps key d xmax active cur ids states) l j n = mark-keeps key d xmax active cur ids states (λ y. false) l j n
-meant-keeps (claims key xmax active cur ids states) l j n = claim-keeps key xmax active cur ids states l j n
+meant-keeps (stamps key sn ss d) l j n = mark-keeps key d sn ss (λ y. false) l j n
+meant-keeps (claims key sn ss) l j n = claim-keeps key sn ss l j n
 meant-keeps (removes key) l j n = remove-keeps key l j n

@@ -7,29 +7,29 @@ use native.Mathlib.Omega.{arith}
 use borrow.Author.Tests.{ltb-true}
 use lib.ListN.{length}
 use Rattle.store.specs.Le.{AreBytes}
-use Rattle.store.proofs.LeLaws.{length-putAt}
 use Rattle.page.specs.Page.{page}
 use Rattle.page.specs.Header.{withNodeType, withIsRoot}
 use Rattle.page.specs.Pool.{goodPool, nextPage, allocated, withFresh}
 use Rattle.page.specs.declared.pool.State.{State}
-use Rattle.page.proofs.PageLaws.{length-page}
 use Rattle.leaf.specs.Cells.{cellsOf}
 use Rattle.leaf.specs.Rows.{rows}
-use Rattle.leaf.proofs.Bytes.{bytes-page}
 use Rattle.tree.specs.Create.{rooted, createdPool}
-use Rattle.tree_grow.specs.Safe.{There}
-use Rattle.call_read.specs.Create.{hasPage, createAfter}
-use Rattle.call_read.proofs.Emptiness.{Empty, fresh-length, created-alone, created-good}
+use Rattle.tree_grow.specs.Steps.Safe.{There}
+use Rattle.call_read.specs.Create.{createCall, hasPage}
 use Rattle.theory_tree.specs.Pages.{leafPage, withPage}
 use Rattle.theory_tree.specs.View.{said, view}
-use Rattle.theory_tree.specs.Shape.{Shape, leaf, pages, WellFormed}
+use Rattle.theory_tree.specs.Shape.{Shape, leaf, pagesIn, WellFormed}
+use Rattle.meaning.specs.Reads.{CreateMakes}
+use Rattle.store.proofs.LeLaws.{length-putAt}
+use Rattle.page.proofs.PageLaws.{length-page}
+use Rattle.leaf.proofs.Bytes.{bytes-page}
+use Rattle.call_read.proofs.Emptiness.{Empty, fresh-length, created-alone, created-good}
 use Rattle.theory_tree.proofs.Says.{leaf-said}
 use Rattle.theory_tree.proofs.Lists.{all-map, out-fresh}
 use Rattle.theory_tree.proofs.Frame.{frame-withPage}
 use Rattle.theory_tree.proofs.Links.{set-twice}
 use Rattle.theory_stores.proofs.Keeping.{bytes-zeros, bytes-field, bytes-set-page}
 use Rattle.theory_stores.proofs.Viewing.{view-page, view-set, view-fresh}
-use Rattle.meaning.specs.Reads.{CreateMakes}
 
 -- what an empty leaf says
 said-empty : (pg : List ℕ) → Empty pg → said pg ≡ leafPage 0 0 []
@@ -82,27 +82,27 @@ module _ (s : List ℕ) (st : State) (left : hasPage s st ≡ true) where
       record {
         tree = f .tree;
         root-is = f .root-is;
-        rep = rw view-created (frame-withPage (view s) (st .used) (said newPage) 0 0 t (out-fresh (st .used) (pages t) (f .below)) (f .rep));
+        rep = rw view-created (frame-withPage (view s) (st .used) (said newPage) 0 0 t (out-fresh (st .used) (pagesIn t) (f .below)) (f .rep));
         level = f .level;
         bounds = f .bounds;
         small = f .small;
         later = f .later;
         distinct = f .distinct;
-        below = all-map (λ p. p < st .used) (λ p. p < st .used + 1) (λ p l. omega arith) (pages t) (f .below);
+        below = all-map (λ p. p < st .used) (λ p. p < st .used + 1) (λ p l. omega arith) (pagesIn t) (f .below);
       }
 
   good-any : (root : ℕ) → goodPool s st ≡ true → goodPool (createdPool s st) (record { root = root; used = rooted s st .used }) ≡ true
   unfolding goodPool
   good-any root good = created-good s st left good
 
-after-is : (s : List ℕ) (st : State) → goodPool s st ≡ true → hasPage s st ≡ true → createAfter s st ≡ createdPool s st
-unfolding createAfter
+after-is : (s : List ℕ) (st : State) → goodPool s st ≡ true → hasPage s st ≡ true → createCall s st .pool ≡ createdPool s st
+unfolding createCall
 after-is s st good left = rw (good, left)
 
 pub create-makes : CreateMakes
 create-makes g bytes good left =
     let is = after-is (g .pool) (g .state) good left in
-    let b : AreBytes (createAfter (g .pool) (g .state)) = rw is (bytes-created (g .pool) (g .state) left bytes) in
+    let b : AreBytes (createCall (g .pool) (g .state) .pool) = rw is (bytes-created (g .pool) (g .state) left bytes) in
     record {
       new = record { bytes = b; good = rw is (created-good (g .pool) (g .state) left good); formed = rw is (made (g .pool) (g .state) left) };
       others = λ root t tree. record {

@@ -7,29 +7,28 @@ use native.Mathlib.Omega.{arith}
 use Rattle.store.specs.Le.{AreBytes}
 use Rattle.store.specs.Pick.{pick}
 use Rattle.page.specs.Pool.{goodPool}
-use Rattle.mvcc.specs.Lists.{lookup, goodActive, goodStatuses}
-use Rattle.mvcc.specs.declared.Current.{Current}
+use Rattle.mvcc.specs.Snapshot.{lookup, goodStatuses, Snapshot, Statuses, goodSnapshot}
 use Rattle.leaf.specs.declared.find.Best.{Best}
-use Rattle.tree_check.specs.Check.{wellFormed}
+use Rattle.tree_check.specs.Check.{isWellFormed}
 use Rattle.tree.specs.declared.ChainBest.{ChainBest}
 use Rattle.tree_grow.specs.Grow.{Grown}
-use Rattle.call_read.specs.Answer.{Outcome, Value, value, nothing, done, refused}
+use Rattle.call_answers.specs.Answer.{refused, done, Outcome, nothing, value, Value}
 use Rattle.call_read.specs.Check.{checkCall}
 use Rattle.call_read.specs.Find.{lookedBest, findVisibleRun}
 use Rattle.theory_tree.specs.Shape.{Shape}
-use Rattle.theory_check.proofs.Formed.{formed-is, formed-yes}
-use Rattle.theory_walks.proofs.Looking.{rowIn, BestIs, best-is}
 use Rattle.meaning.specs.Trees.{TreeIn, CheckIs}
 use Rattle.meaning.specs.Demand.{rowFound, LookupIs}
+use Rattle.theory_check.proofs.Formed.{formed-is, formed-yes}
+use Rattle.theory_walks.proofs.Looking.{rowIn, BestIs, best-is}
 
 -- ---- lookup
 
-module _ (g : Grown) (t : Shape) (tree : TreeIn g t) (key xmax : ℕ) (active : List ℕ) (cur : Current) (ids states : List ℕ) where
-  pub found : BestIs (lookup ids states) active xmax cur key (g .pool) (g .state .root) (g .state .used) t
-  found = best-is (lookup ids states) active xmax cur key (g .pool) (g .state .root) (g .state .used) t (tree .formed)
+module _ (g : Grown) (t : Shape) (tree : TreeIn g t) (key : ℕ) (sn : Snapshot) (ss : Statuses) where
+  pub found : BestIs sn (lookup ss) key (g .pool) (g .state .root) (g .state .used) t
+  found = best-is sn (lookup ss) key (g .pool) (g .state .root) (g .state .used) t (tree .formed)
 
-  pub looks : goodActive active ≡ true → goodStatuses ids states ≡ true
-      → findVisibleRun (g .pool) (g .state) key xmax active cur ids states ≡ lookedBest (ChainBest.Ok (found .found))
+  pub looks : goodSnapshot sn ≡ true → goodStatuses ss ≡ true
+      → findVisibleRun (g .pool) (g .state) key sn ss ≡ lookedBest (ChainBest.Ok (found .found))
   unfolding findVisibleRun
   looks a s = rw (tree .good, a, s, found .told)
 
@@ -38,9 +37,9 @@ looked-row s (Best.At p c) = refl
 looked-row s Best.Nothing = refl
 
 pub lookup-is : LookupIs
-lookup-is g t key xmax active cur ids states tree a s =
-    let b = found g t tree key xmax active cur ids states in
-    ap (rowFound (g .pool)) (looks g t tree key xmax active cur ids states a s) ∙ (looked-row (g .pool) (b .found) ∙ b .row)
+lookup-is g t key sn ss tree a s =
+    let b = found g t tree key sn ss in
+    ap (rowFound (g .pool)) (looks g t tree key sn ss a s) ∙ (looked-row (g .pool) (b .found) ∙ b .row)
 
 -- ---- check
 
@@ -51,7 +50,7 @@ check-is = record { yes = λ g t tree. rw (tree .good, formed-yes (g .state .use
     gives : Outcome Bool → Value Bool
     gives o = o .gives
 
-    by-tests : (g : Grown) → AreBytes (g .pool) → (a : Bool) → goodPool (g .pool) (g .state) ≡ a → (b : Bool) → wellFormed (g .state .used) (g .state .root) (g .pool) ≡ b
+    by-tests : (g : Grown) → AreBytes (g .pool) → (a : Bool) → goodPool (g .pool) (g .state) ≡ a → (b : Bool) → isWellFormed (g .state .used) (g .state .root) (g .pool) ≡ b
         → pick a (done b) (refused 1) ≡ done true → (t : Shape) × TreeIn g t
     by-tests g B true p true q e =
         let f = formed-is (g .state .used) (g .state .root) (g .pool) q in
@@ -60,4 +59,4 @@ check-is = record { yes = λ g t tree. rw (tree .good, formed-yes (g .state .use
     by-tests g B false p b q e = absurd (let w : nothing ≡ value true = ap gives e in let z : _≡_ {A = ℕ} 0 1 = cc in omega arith)
 
     only-tree : (g : Grown) → AreBytes (g .pool) → checkCall (g .pool) (g .state) ≡ done true → (t : Shape) × TreeIn g t
-    only-tree g B e = by-tests g B (goodPool (g .pool) (g .state)) refl (wellFormed (g .state .used) (g .state .root) (g .pool)) refl e
+    only-tree g B e = by-tests g B (goodPool (g .pool) (g .state)) refl (isWellFormed (g .state .used) (g .state .root) (g .pool)) refl e

@@ -6,7 +6,7 @@ use mathlib.Core.List.{List, _∷_}
 use Prim.Native.Nat.{ℕ}
 use Rattle.store.specs.Pick.{pick}
 use Rattle.mvcc.specs.Lists.{mem}
-use Rattle.call_read.specs.Answer.{done, refused}
+use Rattle.call_answers.specs.Answer.{refused, done}
 use Rattle.meaning.specs.Refusals.{Refuses}
 
 -- Done, or one of these

@@ -11,21 +11,22 @@ use lib.ListN.{length}
 use Rattle.store.specs.Le.{AreBytes}
 use Rattle.page.specs.Page.{page}
 use Rattle.page.specs.declared.pool.State.{State}
-use Rattle.page.proofs.PageLaws.{page-short}
 use Rattle.row.specs.Write.{stampLen}
 use Rattle.row.specs.declared.Cell.{Cell}
-use Rattle.row.proofs.Exact.{read-is-written, cell-placed}
-use Rattle.row.proofs.Writing.{pointer-len}
 use Rattle.leaf.specs.Place.{sizesOf, cutFits}
 use Rattle.leaf.specs.CutFacts.{Between}
+use Rattle.tree_stamp.specs.Target.{targetOf}
+use Rattle.tree_stamp.specs.Steps.Target.{CellMet}
+use Rattle.tree_stamp.specs.Stamp.{bytesStamped, cutStamped, stampPlan}
+use Rattle.tree_stamp.specs.declared.Target.{Target}
+use Rattle.page.proofs.PageLaws.{page-short}
+use Rattle.row.proofs.Exact.{read-is-written, cell-placed}
+use Rattle.row.proofs.Writing.{pointer-len}
 use Rattle.leaf.proofs.CutFacts.{stamp-divides}
 use Rattle.leaf.proofs.Chain.{Chain}
 use Rattle.leaf.proofs.Bytes.{bytes-page}
 use Rattle.tree_room.proofs.Telling.{plan-told}
 use Rattle.tree_room.proofs.Keeping.{planned-is}
-use Rattle.tree_stamp.specs.Target.{targetOf, Met}
-use Rattle.tree_stamp.specs.Stamp.{bytesStamped, cutStamped, stampPlan}
-use Rattle.tree_stamp.specs.declared.Target.{Target}
 use Rattle.tree_stamp.proofs.Meeting.{Stands, target-stands}
 use Rattle.tree_stamp.proofs.Cutting.{m, xs, ys, all, live, whole-sum, cut-is}
 use Rattle.tree_stamp.proofs.Sums.{between-append}
@@ -59,7 +60,7 @@ module _ (t : Target) (pg : List ℕ) (B : AreBytes pg) (short : length pg ≤ 4
       rw (cut-is t pg short is over, sum-is) (stamp-divides (all t pg short is over) all-between (omega arith) (omega (arith, is .within, live t pg short is over .1)))
 
 -- so its plan has a cut that fits
-module _ (s : List ℕ) (st : State) (B : AreBytes s) (t : Target) (met : Met (st .used) (t .leaf) (t .cell) s)
+module _ (s : List ℕ) (st : State) (B : AreBytes s) (t : Target) (met : CellMet (st .used) (t .leaf) (t .cell) s)
     (is : t ≡ targetOf (t .leaf) (t .cell) (page (t .leaf) s)) where
   pub plan-cuts : stampPlan st t s .ok ≡ true → stampPlan st t s .plan .over ≡ true → cutFits (bytesStamped t) (stampPlan st t s .plan .cut) ≡ true
   unfolding stampPlan

@@ -15,8 +15,8 @@ use Rattle.row.specs.Write.{cellSize, cellBytes}
 use Rattle.row.specs.declared.Fault.{Fault}
 use Rattle.row.specs.declared.Stamp.{Stamp}
 use Rattle.row.specs.declared.Pointer.{Pointer}
-use Rattle.mvcc.specs.Lists.{mem, lookup, goodStatuses}
-use Rattle.mvcc.specs.Rules.{plainXmax, plainActive}
+use Rattle.mvcc.specs.Lists.{mem}
+use Rattle.mvcc.specs.Snapshot.{lookup, goodStatuses, creatorOf, Snapshot, Statuses, plainSnapshot, statuses}
 use Rattle.mvcc.specs.declared.Current.{Current}
 use Rattle.leaf.specs.Place.{cutFits}
 use Rattle.tree.specs.Descend.{descendOf, onLeaf}
@@ -27,36 +27,38 @@ use Rattle.tree.specs.declared.ChainBest.{ChainBest}
 use Rattle.tree.specs.declared.ChainTest.{ChainTest}
 use Rattle.tree_grow.specs.Grow.{Grown, grown}
 use Rattle.tree_grow.specs.Plan.{pagesAsked}
-use Rattle.tree_room.specs.Room.{noFault, tooDeep, roomOf}
+use Rattle.row.specs.Fault.{noFault}
+use Rattle.tree_room.specs.Room.{growsTooDeep, roomOf}
 use Rattle.tree_room.specs.declared.Planned.{Planned}
 use Rattle.tree_insert.specs.Spot.{spotOf}
 use Rattle.tree_insert.specs.Insert.{bytesWith, insertPlan, insertedAt}
-use Rattle.tree_insert.specs.Ready.{notReady, onReady, onSpot, readyAt, versionAt, creatorOf, isSeen, onChain, newAt}
+use Rattle.tree_insert.specs.Ready.{notReady, onReady, onSpot, readyAt, versionAt, isSeen, onChain, newAt}
 use Rattle.tree_insert.specs.declared.Spot.{Spot}
 use Rattle.tree_insert.specs.declared.Spotted.{Spotted}
 use Rattle.tree_insert.specs.declared.ready.Ready.{Ready}
-use Rattle.tree_stamp.specs.Target.{targetOf, Met}
+use Rattle.tree_stamp.specs.Target.{targetOf}
+use Rattle.tree_stamp.specs.Steps.Target.{CellMet}
 use Rattle.tree_stamp.specs.Stamp.{bytesStamped, stampPlan}
 use Rattle.tree_stamp.specs.Ready.{notMarking, onTest, markingByRoom, markingAt}
 use Rattle.tree_stamp.specs.declared.Target.{Target}
 use Rattle.tree_stamp.specs.declared.ready.Marking.{Marking}
-use Rattle.call_read.specs.Answer.{Ended, ended}
-use Rattle.call_read.specs.Find.{plain, badTree, findVisibleRun}
-use Rattle.call_read.specs.declared.Looked.{Looked}
-use Rattle.call_read.specs.declared.Refusal.{Refusal}
-use Rattle.call_insert.specs.Answer.{changedTo, stays, hideEnd}
+use Rattle.call_answers.specs.Answer.{ended, Ended, faulty, refusalOf, hideStateEnd, hideCountEnd}
+use Rattle.call_read.specs.Find.{findVisibleRun}
+use Rattle.call_answers.specs.declared.Looked.{Looked}
+use Rattle.call_answers.specs.declared.Refusal.{Refusal}
+use Rattle.call_insert.specs.Answer.{stays, changedTo}
 use Rattle.call_insert.specs.Insert.{versionReady, insertVersionRun, insertVersionCall, insertReady, insertRun, insertCall}
-use Rattle.call_insert.specs.declared.Changed.{Changed}
+use Rattle.call_answers.specs.declared.Changed.{Changed}
 use Rattle.call_stamp.specs.Mark.{onLooked, conflictTold, markReady, marked, markRun, markCall, markPlainCall, deleteCall}
 use Rattle.call_stamp.specs.Claim.{claimReady, claimRun, claimCall}
-use Rattle.call_stamp.proofs.Stamping.{looked-finds}
-use Rattle.call_clean.specs.Answer.{notCleared, clearedEnd}
+use Rattle.call_clean.specs.Answer.{notCleared}
 use Rattle.call_clean.specs.Remove.{countAlong, removedAlong, onCount, removeRun, removeCall}
-use Rattle.call_clean.specs.Vacuum.{judgedAlong, vacuumedAlong, dropped, onChainJudged, vacuumRun, vacuumCall}
-use Rattle.call_clean.specs.declared.Cleared.{Cleared}
+use Rattle.call_clean.specs.Vacuum.{judgedAlong, vacuumedAlong, droppedEnd, onChainJudged, vacuumRun, vacuumCall}
+use Rattle.call_answers.specs.declared.CountedAt.{CountedAt}
 use Rattle.call_clean.specs.declared.remove.ChainCount.{ChainCount}
 use Rattle.call_clean.specs.declared.vacuum.ChainJudged.{ChainJudged}
 use Rattle.meaning.specs.Refusals.{Keeps, WritesRefuse}
+use Rattle.call_stamp.proofs.Stamping.{looked-finds}
 use Rattle.meaning.proofs.Refusing.{Known, done-known, either, done-refuses, refused-refuses}
 use Rattle.meaning.proofs.RefusingReads.{LookedKnown, looked-known, plain-active}
 use Rattle.meaning.proofs.RefusingStamps.{plan-cuts}
@@ -71,7 +73,7 @@ room-known ns pages st t x nine eleven ten =
     (λ o.
     either (Known ns) (cutFits t (x .cut))
     (λ e.
-    either (Known ns) (tooDeep x) (λ e. eleven)
+    either (Known ns) (growsTooDeep x) (λ e. eleven)
     (λ e. either (Known ns) (leb (st .used + 1 + pagesAsked (st .root) (x .above)) pages) (λ e. done-known ns) (λ e. ten)))
     (nine o))
     (λ e. done-known ns)
@@ -80,7 +82,7 @@ room-known ns pages st t x nine eleven ten =
 
 module _ (s ns : List ℕ) where
   abbrev Ends : Ended Changed → Type 0
-  Ends e = Keeps s ns (hideEnd e)
+  Ends e = Keeps s ns (hideStateEnd e)
 
   changed-keeps : (g : Grown) → Ends (changedTo g)
   changed-keeps g = record { refuses = done-refuses ns (g .state); stays = λ h. absurd (h refl) }
@@ -116,18 +118,18 @@ module _ (ns : List ℕ) where
 
     version-known : (key creator m : ℕ) → ReadyKnown (versionAt s st key creator m)
     unfolding versionAt
-    version-known key creator m = by-spot (spotOf (st .used) (st .root) key creator s)
+    version-known key creator m = by-spot (spotOf s (st .used) (st .root) key creator)
       where
         by-spot : (x : Spotted) → ReadyKnown (onSpot (λ x. readyAt s st false x m) (notReady 2) x)
         by-spot (Spotted.Ok x) = at-known false x m (λ e. absurd (let z : _≡_ {A = ℕ} 0 1 = cc in omega arith))
         by-spot (Spotted.Bad f) = two
 
-    new-known : (key : ℕ) (cur : Current) (ids states : List ℕ) (m : ℕ) → Known ns 6 → ReadyKnown (newAt s st key cur ids states m)
+    new-known : (key : ℕ) (cur : Current) (ss : Statuses) (m : ℕ) → Known ns 6 → ReadyKnown (newAt s st key cur ss m)
     unfolding newAt
-    new-known key cur ids states m six = by-spot (spotOf (st .used) (st .root) key (creatorOf cur) s)
+    new-known key cur ss m six = by-spot (spotOf s (st .used) (st .root) key (creatorOf cur))
       where
         best : ChainBest
-        best = bestInTree (lookup ids states) plainActive plainXmax cur (st .used) (st .root) key s
+        best = bestInTree s (st .used) (st .root) key (plainSnapshot cur) (lookup ss)
 
         by-chain : (x : Spot) (b : ChainBest) → ReadyKnown (onChain (λ b. readyAt s st (isSeen b) x m) (notReady 2) b)
         by-chain x (ChainBest.Ok b) = at-known (isSeen b) x m (λ e. six)
@@ -144,24 +146,24 @@ abbrev versionNumbers : List ℕ
 versionNumbers = 1 ∷ 5 ∷ 2 ∷ 9 ∷ 11 ∷ 10 ∷ []
 
 module _ (s : List ℕ) (st : State) (key : ℕ) where
-  insert-known : (cur : Current) (ids states : List ℕ) (len : ℕ) → ReadyKnown insertNumbers (insertReady s st key cur ids states len)
+  insert-known : (cur : Current) (ss : Statuses) (len : ℕ) → ReadyKnown insertNumbers (insertReady s st key cur ss len)
   unfolding insertReady mem
-  insert-known cur ids states len =
+  insert-known cur ss len =
       either (ReadyKnown insertNumbers) (goodPool s st)
       (λ e.
-      either (ReadyKnown insertNumbers) (goodStatuses ids states)
+      either (ReadyKnown insertNumbers) (goodStatuses ss)
       (λ e.
       either (ReadyKnown insertNumbers) (leb len 4051)
-      (λ e. new-known insertNumbers s st refl refl refl refl key cur ids states (cellSize Stamp.Absent Pointer.Absent len) refl)
+      (λ e. new-known insertNumbers s st refl refl refl refl key cur ss (cellSize Stamp.Absent Pointer.Absent len) refl)
       (λ e. refl))
       (λ e. refl))
       (λ e. refl)
 
-  insert-keeps : (body : List ℕ) (cur : Current) (ids states : List ℕ) → Keeps s insertNumbers (insertCall s st key body cur ids states)
+  insert-keeps : (body : List ℕ) (cur : Current) (ss : Statuses) → Keeps s insertNumbers (insertCall s st key cur ss body)
   unfolding insertCall insertRun
-  insert-keeps body cur ids states =
+  insert-keeps body cur ss =
       ready-keeps s insertNumbers (λ x plan. insertedAt x plan (cellBytes key (creatorOf cur) Stamp.Absent Pointer.Absent body) (grown s st))
-      (insertReady s st key cur ids states (length body)) (insert-known cur ids states (length body))
+      (insertReady s st key cur ss (length body)) (insert-known cur ss (length body))
 
   version-ready-known : (creator : ℕ) (stamp : Stamp) (pointer : Pointer) (len : ℕ) → ReadyKnown versionNumbers (versionReady s st key creator stamp pointer len)
   unfolding versionReady mem
@@ -187,7 +189,7 @@ module _ (ns : List ℕ) where
   MarkingKnown x = Known ns (x .number)
 
   module _ (s : List ℕ) (st : State) (B : AreBytes s) (two : Known ns 2) (eleven : Known ns 11) (ten : Known ns 10) where
-    module _ (t : Target) (met : Met (st .used) (t .leaf) (t .cell) s) (is : t ≡ targetOf (t .leaf) (t .cell) (page (t .leaf) s)) where
+    module _ (t : Target) (met : CellMet (st .used) (t .leaf) (t .cell) s) (is : t ≡ targetOf (t .leaf) (t .cell) (page (t .leaf) s)) where
       -- 9 is none of them, whatever the numbers: the plan's cut fits
       stamp-room : stampPlan st t s .ok ≡ true → Known ns (roomOf (length s / 4096) st (bytesStamped t) (stampPlan st t s .plan))
       stamp-room e =
@@ -210,25 +212,25 @@ module _ (ns : List ℕ) where
           by-test (ChainTest.Ok false) k r = either MarkingKnown (eqb n 0) (λ e. done-known ns) (λ e. r)
           by-test (ChainTest.Bad f) k r = two
 
-    module _ (key xmax : ℕ) (active : List ℕ) (cur : Current) (ids states : List ℕ) where
+    module _ (key : ℕ) (sn : Snapshot) (ss : Statuses) where
       -- only a claim asks for conflicts
       asked-known : (claiming : Bool) (seen : ℕ) → (claiming ≡ true → Known ns 7)
-          → conflictTold claiming s st key xmax active cur ids states seen ≡ ChainTest.Ok true → Known ns 7
+          → conflictTold s st key sn ss claiming seen ≡ ChainTest.Ok true → Known ns 7
       asked-known true seen seven e = seven refl
       asked-known false seen seven e = absurd (let z : _≡_ {A = ℕ} 0 1 = cc in omega arith)
 
-      mark-known : (claiming : Bool) → (claiming ≡ true → Known ns 7) → LookedKnown ns (findVisibleRun s st key xmax active cur ids states)
-          → MarkingKnown (markReady claiming s st key xmax active cur ids states)
+      mark-known : (claiming : Bool) → (claiming ≡ true → Known ns 7) → LookedKnown ns (findVisibleRun s st key sn ss)
+          → MarkingKnown (markReady s st key sn ss claiming)
       unfolding markReady
-      mark-known claiming seven looks = by-looked (findVisibleRun s st key xmax active cur ids states) refl looks
+      mark-known claiming seven looks = by-looked (findVisibleRun s st key sn ss) refl looks
         where
-          by-looked : (y : Looked) → findVisibleRun s st key xmax active cur ids states ≡ y → LookedKnown ns y
+          by-looked : (y : Looked) → findVisibleRun s st key sn ss ≡ y → LookedKnown ns y
               → MarkingKnown
-              (onLooked (λ p c. markingAt s st (conflictTold claiming s st key xmax active cur ids states (c .version .creator)) (targetOf p c (page p s)))
+              (onLooked (λ p c. markingAt s st (conflictTold s st key sn ss claiming (c .version .creator)) (targetOf p c (page p s)))
               (λ r. notMarking (r .number) (r .fault)) y)
           by-looked (Looked.At p c) e k =
-              let f = looked-finds s st key xmax active cur ids states {looked = Looked.At p c} (sym e) refl in
-              marking-known (targetOf p c (page p s)) (f .met) refl (conflictTold claiming s st key xmax active cur ids states (c .version .creator))
+              let f = looked-finds s st key sn ss {looked = Looked.At p c} (sym e) refl in
+              marking-known (targetOf p c (page p s)) (f .met) refl (conflictTold s st key sn ss claiming (c .version .creator))
               (asked-known claiming (c .version .creator) seven)
           by-looked (Looked.Refused r) e k = k
 
@@ -245,64 +247,64 @@ claimNumbers = 1 ∷ 3 ∷ 4 ∷ 2 ∷ 8 ∷ 7 ∷ 11 ∷ 10 ∷ []
 no-claim : {A : Type 0} → false ≡ true → A
 no-claim e = absurd (let z : _≡_ {A = ℕ} 0 1 = cc in omega arith)
 
-module _ (s : List ℕ) (st : State) (key : ℕ) (cur : Current) (ids states : List ℕ) (B : AreBytes s) where
-  module _ (xmax : ℕ) (active : List ℕ) where
-    mark-keeps : (d : ℕ) → Keeps s markNumbers (markCall s st key d xmax active cur ids states)
+module _ (s : List ℕ) (st : State) (key : ℕ) (ss : Statuses) (B : AreBytes s) where
+  module _ (sn : Snapshot) where
+    mark-keeps : (d : ℕ) → Keeps s markNumbers (markCall s st key sn ss d)
     unfolding markCall markRun mem
     mark-keeps d =
-        marked-keeps s markNumbers st d (markReady false s st key xmax active cur ids states)
-        (mark-known markNumbers s st B refl refl refl key xmax active cur ids states false no-claim
-        (looked-known markNumbers s st key xmax active cur ids states refl (λ e. refl) refl refl refl))
+        marked-keeps s markNumbers st d (markReady s st key sn ss false)
+        (mark-known markNumbers s st B refl refl refl key sn ss false no-claim
+        (looked-known markNumbers s st key sn ss refl (λ e. refl) refl refl refl))
 
-    claim-known : MarkingKnown claimNumbers (claimReady s st key xmax active cur ids states)
+    claim-known : MarkingKnown claimNumbers (claimReady s st key sn ss)
     unfolding claimReady mem
     claim-known =
         either (MarkingKnown claimNumbers) (goodPool s st)
         (λ e.
-        either (MarkingKnown claimNumbers) (eqb (creatorOf cur) 0) (λ e. refl)
+        either (MarkingKnown claimNumbers) (eqb (creatorOf (sn .current)) 0) (λ e. refl)
         (λ e.
-        mark-known claimNumbers s st B refl refl refl key xmax active cur ids states true (λ e. refl)
-        (looked-known claimNumbers s st key xmax active cur ids states refl (λ e. refl) refl refl refl)))
+        mark-known claimNumbers s st B refl refl refl key sn ss true (λ e. refl)
+        (looked-known claimNumbers s st key sn ss refl (λ e. refl) refl refl refl)))
         (λ e. refl)
 
-    claim-keeps : Keeps s claimNumbers (claimCall s st key xmax active cur ids states)
+    claim-keeps : Keeps s claimNumbers (claimCall s st key sn ss)
     unfolding claimCall claimRun
-    claim-keeps = marked-keeps s claimNumbers st (creatorOf cur) (claimReady s st key xmax active cur ids states) claim-known
+    claim-keeps = marked-keeps s claimNumbers st (creatorOf (sn .current)) (claimReady s st key sn ss) claim-known
 
-  mark-plain-keeps : (d : ℕ) → Keeps s plainNumbers (markPlainCall s st key d cur ids states)
+  mark-plain-keeps : (cur : Current) (d : ℕ) → Keeps s plainNumbers (markPlainCall s st key cur ss d)
   unfolding markPlainCall markCall markRun mem
-  mark-plain-keeps d =
-      marked-keeps s plainNumbers st d (markReady false s st key plainXmax plainActive cur ids states)
-      (mark-known plainNumbers s st B refl refl refl key plainXmax plainActive cur ids states false no-claim
-      (looked-known plainNumbers s st key plainXmax plainActive cur ids states refl plain-active refl refl refl))
+  mark-plain-keeps cur d =
+      marked-keeps s plainNumbers st d (markReady s st key (plainSnapshot cur) ss false)
+      (mark-known plainNumbers s st B refl refl refl key (plainSnapshot cur) ss false no-claim
+      (looked-known plainNumbers s st key (plainSnapshot cur) ss refl plain-active refl refl refl))
 
-  delete-keeps : Keeps s plainNumbers (deleteCall s st key cur ids states)
+  delete-keeps : (cur : Current) → Keeps s plainNumbers (deleteCall s st key cur ss)
   unfolding deleteCall
-  delete-keeps = mark-plain-keeps (creatorOf cur)
+  delete-keeps cur = mark-plain-keeps cur (creatorOf cur)
 
 -- ---- remove and vacuum
 
 module _ (s ns : List ℕ) where
-  abbrev Clears : Ended Cleared → Type 0
-  Clears e = Keeps s ns (clearedEnd e)
+  abbrev Clears : Ended CountedAt → Type 0
+  Clears e = Keeps s ns (hideCountEnd e)
 
-  cleared-keeps : (n : ℕ) (t : List ℕ) → Clears (ended (Cleared.Done n) t)
+  cleared-keeps : (n : ℕ) (t : List ℕ) → Clears (ended (CountedAt.Done n) t)
   cleared-keeps n t = record { refuses = done-refuses ns n; stays = λ h. absurd (h refl) }
 
   not-cleared : (r : Refusal) → Known ns (r .number) → Clears (notCleared s r)
   not-cleared r k = record { refuses = refused-refuses ns (r .number) k; stays = λ h. refl }
 
-  way-keeps : (good : ℕ → Ended Cleared) → Known ns 2 → ((p : ℕ) → Clears (good p)) → (d : Descent) → Clears (onLeaf good (λ f. notCleared s (badTree f)) d)
+  way-keeps : (good : ℕ → Ended CountedAt) → Known ns 2 → ((p : ℕ) → Clears (good p)) → (d : Descent) → Clears (onLeaf good (λ f. notCleared s (faulty f)) d)
   way-keeps good two k (Descent.Leaf p) = k p
-  way-keeps good two k (Descent.Bad f) = not-cleared (badTree f) two
+  way-keeps good two k (Descent.Bad f) = not-cleared (faulty f) two
 
-  count-keeps : (after : List ℕ) → Known ns 2 → (c : ChainCount) → Clears (onCount (λ n. ended (Cleared.Done n) after) (λ f. notCleared s (badTree f)) c)
+  count-keeps : (after : List ℕ) → Known ns 2 → (c : ChainCount) → Clears (onCount (λ n. ended (CountedAt.Done n) after) (λ f. notCleared s (faulty f)) c)
   count-keeps after two (ChainCount.Ok n) = cleared-keeps n after
-  count-keeps after two (ChainCount.Bad f) = not-cleared (badTree f) two
+  count-keeps after two (ChainCount.Bad f) = not-cleared (faulty f) two
 
-  judged-keeps : (e : Ended ℕ) → Known ns 2 → (c : ChainJudged) → Clears (onChainJudged (dropped e) (λ f. notCleared s (badTree f)) c)
+  judged-keeps : (e : Ended ℕ) → Known ns 2 → (c : ChainJudged) → Clears (onChainJudged (droppedEnd e) (λ f. notCleared s (faulty f)) c)
   judged-keeps e two ChainJudged.Ok = cleared-keeps (e .answer) (e .pool)
-  judged-keeps e two (ChainJudged.Bad f) = not-cleared (badTree f) two
+  judged-keeps e two (ChainJudged.Bad f) = not-cleared (faulty f) two
 
 module _ (s : List ℕ) (st : State) where
   remove-keeps : (key : ℕ) → Keeps s (1 ∷ 2 ∷ []) (removeCall s st key)
@@ -310,32 +312,32 @@ module _ (s : List ℕ) (st : State) where
   remove-keeps key =
       either (Clears s _) (goodPool s st)
       (λ e.
-      way-keeps s _ _ refl (λ p. count-keeps s _ (removedAlong (st .used) (st .used) key p s) refl (countAlong (st .used) key p s))
+      way-keeps s _ _ refl (λ p. count-keeps s _ (removedAlong s (st .used) p key (st .used)) refl (countAlong s (st .used) p key))
       (descendOf 3 (Route.Search key) (st .used) (st .root) s))
-      (λ e. not-cleared s _ (plain 1) refl)
+      (λ e. not-cleared s _ (refusalOf 1) refl)
 
-  vacuum-keeps : (bound : ℕ) (ids states : List ℕ) → Keeps s (1 ∷ 4 ∷ 2 ∷ []) (vacuumCall s st bound ids states)
+  vacuum-keeps : (bound : ℕ) (ss : Statuses) → Keeps s (1 ∷ 4 ∷ 2 ∷ []) (vacuumCall s st ss bound)
   unfolding vacuumCall vacuumRun mem
-  vacuum-keeps bound ids states =
+  vacuum-keeps bound ss =
       either (Clears s _) (goodPool s st)
       (λ e.
-      either (Clears s _) (goodStatuses ids states)
+      either (Clears s _) (goodStatuses ss)
       (λ e.
       way-keeps s _ _ refl
-      (λ p. judged-keeps s _ (vacuumedAlong (lookup ids states) bound (st .used) (st .used) 0 p s) refl (judgedAlong (st .used) p s))
+      (λ p. judged-keeps s _ (vacuumedAlong s (st .used) p (lookup ss) bound (st .used) 0) refl (judgedAlong s (st .used) p))
       (descendOf 3 Route.First (st .used) (st .root) s))
-      (λ e. not-cleared s _ (plain 4) refl))
-      (λ e. not-cleared s _ (plain 1) refl)
+      (λ e. not-cleared s _ (refusalOf 4) refl))
+      (λ e. not-cleared s _ (refusalOf 1) refl)
 
 pub writes-refuse : WritesRefuse
 writes-refuse =
     record {
-      insert = λ s st key body cur ids states. insert-keeps s st key body cur ids states;
+      insert = λ s st key body cur ss. insert-keeps s st key body cur ss;
       insert-version = λ s st key creator stamp pointer body. insert-version-keeps s st key creator stamp pointer body;
-      mark = λ s st key d xmax active cur ids states B. mark-keeps s st key cur ids states B xmax active d;
-      mark-plain = λ s st key d cur ids states B. mark-plain-keeps s st key cur ids states B d;
-      delete = λ s st key cur ids states B. delete-keeps s st key cur ids states B;
-      claim = λ s st key xmax active cur ids states B. claim-keeps s st key cur ids states B xmax active;
+      mark = λ s st key d sn ss B. mark-keeps s st key ss B sn d;
+      mark-plain = λ s st key d cur ss B. mark-plain-keeps s st key ss B cur d;
+      delete = λ s st key cur ss B. delete-keeps s st key ss B cur;
+      claim = λ s st key sn ss B. claim-keeps s st key ss B sn;
       remove = λ s st key. remove-keeps s st key;
-      vacuum = λ s st bound ids states. vacuum-keeps s st bound ids states;
+      vacuum = λ s st bound ss. vacuum-keeps s st bound ss;
     }

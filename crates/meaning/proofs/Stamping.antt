@@ -13,14 +13,12 @@ use Rattle.store.specs.Pick.{pick}
 use Rattle.page.specs.Page.{page}
 use Rattle.page.specs.Header.{cellCount}
 use Rattle.page.specs.declared.pool.State.{State}
-use Rattle.page.proofs.PoolLaws.{pool-is}
 use Rattle.row.specs.Write.{cellBytes}
 use Rattle.row.specs.declared.Cell.{Cell}
 use Rattle.row.specs.declared.Stamp.{Stamp}
 use Rattle.leaf.specs.Rows.{Row, rowOf, rowsBytes}
 use Rattle.leaf.specs.RowFacts.{Sound}
 use Rattle.leaf.specs.declared.place.Cut.{Cut}
-use Rattle.leaf.proofs.Bytes.{bytes-page}
 use Rattle.leaf_edit.specs.EditFacts.{stampRow}
 use Rattle.tree_grow.specs.Grow.{Grown}
 use Rattle.tree_grow.specs.Plan.{divisionOf}
@@ -31,6 +29,10 @@ use Rattle.tree_stamp.specs.Stamp.{bytesStamped, cutStamped, splicedStamp, stam
 use Rattle.tree_stamp.specs.declared.Target.{Target}
 use Rattle.theory_tree.specs.Shape.{Shape, chain, All, KeysIn, Sorted}
 use Rattle.theory_tree.specs.Versions.{ofVersion, arrivals}
+use Rattle.meaning.specs.Trees.{TreeIn}
+use Rattle.meaning.specs.Meant.{someOf, changeLast, stamped}
+use Rattle.page.proofs.PoolLaws.{pool-is}
+use Rattle.leaf.proofs.Bytes.{bytes-page}
 use Rattle.theory_tree.proofs.Contexts.{top-key, Ctx, preC, postC, loC, hiC}
 use Rattle.theory_tree.proofs.Entries.{path}
 use Rattle.theory_walks.proofs.Walking.{AtLeaf, at-leaf}
@@ -40,8 +42,6 @@ use Rattle.theory_plan.proofs.Linking.{planAbove}
 use Rattle.theory_plan.proofs.Rooms.{room-told}
 use Rattle.theory_plan.proofs.Leaves.{leaf-held}
 use Rattle.theory_plan.proofs.Stamps.{met-sound, stampedRows, stamp-keys, stamp-sorted, stamp-count, stamp-all-fit, stamp-spliced-is, stamp-fits-bytes, stamp-cut}
-use Rattle.meaning.specs.Trees.{TreeIn}
-use Rattle.meaning.specs.Meant.{someOf, changeLast, stamped}
 use Rattle.meaning.proofs.Judging.{formed-at, targetFor, stampPlanned, stampRoom}
 use Rattle.meaning.proofs.Storing.{Holding, leaf-stored, leaf-divided}
 

@@ -14,20 +14,21 @@ use Rattle.store.specs.Pick.{pick}
 use Rattle.page.specs.Page.{page, setPage}
 use Rattle.page.specs.Pool.{goodPool}
 use Rattle.page.specs.declared.pool.State.{State}
-use Rattle.page.proofs.PageLaws.{length-page, length-setPage}
-use Rattle.page.proofs.PoolLaws.{pool-is}
 use Rattle.leaf.specs.Rows.{Row, AllFit, rowsBytes, writeRows}
 use Rattle.leaf.specs.declared.place.Cut.{Cut}
 use Rattle.tree.specs.Climb.{pathOf}
-use Rattle.tree.proofs.Ways.{and-both}
 use Rattle.tree_grow.specs.Grow.{Grown, grown}
 use Rattle.tree_grow.specs.Plan.{divisionOf}
-use Rattle.tree_grow.specs.Safe.{There}
+use Rattle.tree_grow.specs.Steps.Safe.{There}
 use Rattle.tree_room.specs.Room.{dividing}
 use Rattle.tree_room.specs.Up.{dividedUp}
 use Rattle.theory_tree.specs.Pages.{leafPage, withPage}
 use Rattle.theory_tree.specs.View.{view}
 use Rattle.theory_tree.specs.Shape.{Shape, leaf, chain, KeysIn, Sorted, WellFormed}
+use Rattle.meaning.specs.Trees.{TreeIn}
+use Rattle.page.proofs.PageLaws.{length-page, length-setPage}
+use Rattle.page.proofs.PoolLaws.{pool-is}
+use Rattle.tree.proofs.Ways.{and-both}
 use Rattle.theory_tree.proofs.Contexts.{top-key, Ctx, plug, preC, postC, preG, postG, loC, hiC, parC, nxtC, Grown as Raised}
 use Rattle.theory_tree.proofs.Entries.{path}
 use Rattle.theory_tree.proofs.Lists.{all-right}
@@ -42,7 +43,6 @@ use Rattle.theory_plan.proofs.Sides.{RowsCut}
 use Rattle.theory_plan.proofs.Leaves.{leaf-held}
 use Rattle.theory_plan.proofs.Rooms.{HasRoom, GrowsIn, grows-in}
 use Rattle.theory_grow.proofs.Settling.{usedAfter, Settled, dividedTree, divided-up-wf}
-use Rattle.meaning.specs.Trees.{TreeIn}
 use Rattle.meaning.proofs.Judging.{formed-at}
 
 -- ---- the pool is still none that is refused

@@ -5,9 +5,8 @@ use mathlib.Core.List.{List, [], _∷_, _++_, append-nil, append-assoc}
 use Prim.Native.Nat.{ℕ}
 use lib.Dec.{eqb}
 use Rattle.store.specs.Pick.{pick}
-use Rattle.mvcc.specs.Lists.{lookup, goodActive, goodStatuses}
+use Rattle.mvcc.specs.Snapshot.{lookup, goodStatuses, Snapshot, Statuses, goodSnapshot, snapshot, noStatuses}
 use Rattle.mvcc.specs.Rules.{conflicting}
-use Rattle.mvcc.specs.declared.Current.{Current}
 use Rattle.leaf.specs.Cells.{judgeLeaf}
 use Rattle.leaf.specs.Rows.{Row, rows}
 use Rattle.leaf.specs.declared.Judged.{Judged}
@@ -16,12 +15,14 @@ use Rattle.tree.specs.Chain.{Seen, stop, go, ok, along}
 use Rattle.tree.specs.declared.ChainBest.{ChainBest}
 use Rattle.tree_grow.specs.Grow.{Grown}
 use Rattle.list_records.specs.Records.{records}
-use Rattle.list_versions.specs.Gather.{ofKey as keyed, lookRows, rowsAlong}
+use Rattle.list_versions.specs.Gather.{rowsOfKey}
+use Rattle.theory_tree.specs.Versions.{only, ofKey, best}
+use Rattle.list_versions.specs.Gather.{lookRows, rowsAlong}
 use Rattle.list_versions.specs.Listed.{listTree}
 use Rattle.list_versions.specs.declared.Which.{Which}
 use Rattle.list_pages.specs.Numbers.{numberRecords, numbersTree}
 use Rattle.list_visible.specs.Visible.{lookAll, chainRows, scanRows, scanTree}
-use Rattle.call_read.specs.Answer.{done}
+use Rattle.call_answers.specs.Answer.{done}
 use Rattle.call_read.specs.Find.{lookedBest, hidden, findVisibleCall}
 use Rattle.call_read.specs.Conflict.{conflictCall}
 use Rattle.call_read.specs.Listings.{listRun, versionsOfCall, allVersionsCall}
@@ -29,7 +30,9 @@ use Rattle.call_read.specs.Numbers.{numbersRun, pageNumbersCall}
 use Rattle.call_read.specs.Scan.{scanRun, scanVisibleCall}
 use Rattle.theory_tree.specs.View.{view}
 use Rattle.theory_tree.specs.Shape.{Shape, chain, first, All, WellFormed}
-use Rattle.theory_tree.specs.Versions.{only, ofKey, best}
+use Rattle.meaning.specs.Trees.{TreeIn}
+use Rattle.meaning.specs.Meant.{seenBy, someOf, onBest}
+use Rattle.meaning.specs.Reads.{listing, numbersIn, ReadsTell}
 use Rattle.theory_tree.proofs.Workers.{larger}
 use Rattle.theory_tree.proofs.Contexts.{top}
 use Rattle.theory_tree.proofs.Seek.{leafOf}
@@ -37,9 +40,6 @@ use Rattle.theory_tree.proofs.Walk.{locs, locs-plug}
 use Rattle.theory_walks.proofs.Descending.{descend-search, descend-first}
 use Rattle.theory_walks.proofs.Walking.{at-leaves, gather-chain, walk-key, walk-all}
 use Rattle.theory_walks.proofs.Looking.{larger-is, rowIn, meets, test-is}
-use Rattle.meaning.specs.Trees.{TreeIn}
-use Rattle.meaning.specs.Meant.{seenBy, someOf, onBest}
-use Rattle.meaning.specs.Reads.{listing, numbersIn, ReadsTell}
 use Rattle.meaning.proofs.Last.{some-is}
 use Rattle.meaning.proofs.Reading.{found, looks}
 use Rattle.meaning.proofs.Visiting.{numbers-are}
@@ -52,37 +52,37 @@ looked-number s Best.Nothing = refl
 
 -- ---- the rows that a listing gathers
 
-keyed-app : (key : ℕ) (xs ys : List Row) → keyed key (xs ++ ys) ≡ keyed key xs ++ keyed key ys
-unfolding keyed
+keyed-app : (key : ℕ) (xs ys : List Row) → rowsOfKey key (xs ++ ys) ≡ rowsOfKey key xs ++ rowsOfKey key ys
+unfolding rowsOfKey
 keyed-app key [] ys = refl
 keyed-app key (x ∷ xs) ys = by-key (eqb (x .key) key) (keyed-app key xs ys)
   where
-    by-key : (b : Bool) → keyed key (xs ++ ys) ≡ keyed key xs ++ keyed key ys
-        → pick b (x ∷ keyed key (xs ++ ys)) (keyed key (xs ++ ys)) ≡ pick b (x ∷ keyed key xs) (keyed key xs) ++ keyed key ys
+    by-key : (b : Bool) → rowsOfKey key (xs ++ ys) ≡ rowsOfKey key xs ++ rowsOfKey key ys
+        → pick b (x ∷ rowsOfKey key (xs ++ ys)) (rowsOfKey key (xs ++ ys)) ≡ pick b (x ∷ rowsOfKey key xs) (rowsOfKey key xs) ++ rowsOfKey key ys
     by-key true e = ap (λ (l : List Row). x ∷ l) e
     by-key false e = e
 
-keyed-none : (key : ℕ) (rs : List Row) → All (λ (r : Row). ofKey key r ≡ false) rs → keyed key rs ≡ []
-unfolding keyed
+keyed-none : (key : ℕ) (rs : List Row) → All (λ (r : Row). ofKey key r ≡ false) rs → rowsOfKey key rs ≡ []
+unfolding rowsOfKey
 keyed-none key [] h = refl
 keyed-none key (r ∷ rs) h = rw (h .0) (keyed-none key rs (h .1))
 
-keyed-is : (key : ℕ) (rs : List Row) → keyed key rs ≡ only (ofKey key) rs
-unfolding keyed
+keyed-is : (key : ℕ) (rs : List Row) → rowsOfKey key rs ≡ only (ofKey key) rs
+unfolding rowsOfKey
 keyed-is key [] = refl
 keyed-is key (r ∷ rs) = rw (keyed-is key rs)
 
 module _ (s : List ℕ) (root used : ℕ) (t : Shape) (f : WellFormed (view s) root used t) where
-  key-rows : (key : ℕ) → rowsAlong (Which.Key key) used (leafOf key t) s ≡ ok (only (ofKey key) (chain t))
-  unfolding rowsAlong keyed
+  key-rows : (key : ℕ) → rowsAlong s used (leafOf key t) (Which.Key key) ≡ ok (only (ofKey key) (chain t))
+  unfolding rowsAlong rowsOfKey
   key-rows key =
       walk-key (lookRows (Which.Key key)) key step says skips s root used t f []
       ∙ ap (λ (rs : List Row). ok rs)
-      (gather-chain step s used (λ a rs. a ++ keyed key rs) (λ a p pg e j. refl) append-nil joins t (at-leaves s root used t f (locs t top) (locs-plug t top)) []
+      (gather-chain step s used (λ a rs. a ++ rowsOfKey key rs) (λ a p pg e j. refl) append-nil joins t (at-leaves s root used t f (locs t top) (locs-plug t top)) []
       ∙ keyed-is key (chain t))
     where
       step : List Row → ℕ → List ℕ → List Row
-      step a p pg = a ++ keyed key (rows pg)
+      step a p pg = a ++ rowsOfKey key (rows pg)
 
       says : (a : List Row) (p : ℕ) (pg : List ℕ) (e : ℕ) → judgeLeaf p pg ≡ Judged.Ok e
           → lookRows (Which.Key key) a p pg ≡ pick (larger key (rows pg)) (stop (step a p pg)) (go (step a p pg))
@@ -91,8 +91,8 @@ module _ (s : List ℕ) (root used : ℕ) (t : Shape) (f : WellFormed (view s) r
       skips : (a : List Row) (p : ℕ) (pg : List ℕ) (e : ℕ) → judgeLeaf p pg ≡ Judged.Ok e → All (λ (r : Row). ofKey key r ≡ false) (rows pg) → step a p pg ≡ a
       skips a p pg e j o = ap (λ (l : List Row). a ++ l) (keyed-none key (rows pg) o) ∙ append-nil a
 
-      joins : (a xs ys : List Row) → a ++ keyed key (xs ++ ys) ≡ (a ++ keyed key xs) ++ keyed key ys
-      joins a xs ys = ap (λ (l : List Row). a ++ l) (keyed-app key xs ys) ∙ sym (append-assoc a (keyed key xs) (keyed key ys))
+      joins : (a xs ys : List Row) → a ++ rowsOfKey key (xs ++ ys) ≡ (a ++ rowsOfKey key xs) ++ rowsOfKey key ys
+      joins a xs ys = ap (λ (l : List Row). a ++ l) (keyed-app key xs ys) ∙ sym (append-assoc a (rowsOfKey key xs) (rowsOfKey key ys))
 
   -- every look that takes all of a leaf's rows
   whole : (look : List Row → ℕ → List ℕ → Seen (List Row))
@@ -104,32 +104,32 @@ module _ (s : List ℕ) (root used : ℕ) (t : Shape) (f : WellFormed (view s) r
       (gather-chain (λ a p pg. a ++ rows pg) s used (λ a rs. a ++ rs) (λ a p pg e j. refl) append-nil (λ a xs ys. sym (append-assoc a xs ys))
       t (at-leaves s root used t f (locs t top) (locs-plug t top)) [])
 
-  all-rows : rowsAlong Which.All used (first t) s ≡ ok (chain t)
+  all-rows : rowsAlong s used (first t) Which.All ≡ ok (chain t)
   unfolding rowsAlong
   all-rows = whole (lookRows Which.All) (λ a p pg e j. rw j)
 
-  chain-rows : chainRows used (first t) s ≡ ok (chain t)
+  chain-rows : chainRows s used (first t) ≡ ok (chain t)
   unfolding chainRows
   chain-rows = whole lookAll (λ a p pg e j. rw j)
 
 -- ---- the calls
 
 module _ (g : Grown) (t : Shape) (tree : TreeIn g t) where
-  tells-find : (key xmax : ℕ) (active : List ℕ) (cur : Current) (ids states : List ℕ) → goodActive active ≡ true → goodStatuses ids states ≡ true
-      → findVisibleCall (g .pool) (g .state) key xmax active cur ids states .number
-      ≡ onBest 8 (λ y. 0) (best (seenBy (lookup ids states) active xmax cur) key (chain t))
+  tells-find : (key : ℕ) (sn : Snapshot) (ss : Statuses) → goodSnapshot sn ≡ true → goodStatuses ss ≡ true
+      → findVisibleCall (g .pool) (g .state) key sn ss .number
+      ≡ onBest 8 (λ y. 0) (best (seenBy sn (lookup ss)) key (chain t))
   unfolding findVisibleCall
-  tells-find key xmax active cur ids states a s =
-      let b = found g t tree key xmax active cur ids states in
-      rw (looks g t tree key xmax active cur ids states a s) (looked-number (g .pool) (b .found) ∙ ap (onBest 8 (λ y. 0)) (b .row))
+  tells-find key sn ss a s =
+      let b = found g t tree key sn ss in
+      rw (looks g t tree key sn ss a s) (looked-number (g .pool) (b .found) ∙ ap (onBest 8 (λ y. 0)) (b .row))
 
-  tells-conflict : (key seen xmax : ℕ) (active : List ℕ) (cur : Current) → goodActive active ≡ true
-      → conflictCall (g .pool) (g .state) key seen xmax active cur
-      ≡ done (someOf (λ x. ofKey key x && conflicting active xmax cur seen (x .creator) (x .stamp)) (chain t))
+  tells-conflict : (key seen : ℕ) (sn : Snapshot) → goodSnapshot sn ≡ true
+      → conflictCall (g .pool) (g .state) key sn seen
+      ≡ done (someOf (λ x. ofKey key x && conflicting sn seen (x .creator) (x .stamp)) (chain t))
   unfolding conflictCall
-  tells-conflict key seen xmax active cur a =
-      rw (tree .good, a, test-is false (lookup [] []) active xmax cur seen key (g .pool) (g .state .root) (g .state .used) t (tree .formed))
-      (ap (λ (b : Bool). done b) (sym (some-is (meets false (lookup [] []) active xmax cur seen key) (chain t))))
+  tells-conflict key seen sn a =
+      rw (tree .good, a, test-is false sn (lookup noStatuses) seen key (g .pool) (g .state .root) (g .state .used) t (tree .formed))
+      (ap (λ (b : Bool). done b) (sym (some-is (meets false sn (lookup noStatuses) seen key) (chain t))))
 
   tells-versions : (key : ℕ) (out : List ℕ) → versionsOfCall (g .pool) (g .state) key out ≡ listing (records (only (ofKey key) (chain t))) out
   unfolding versionsOfCall listRun listTree
@@ -149,10 +149,10 @@ module _ (g : Grown) (t : Shape) (tree : TreeIn g t) where
         all-rows (g .pool) (g .state .root) (g .state .used) t (tree .formed),
       )
 
-  tells-scan : (xmax : ℕ) (active : List ℕ) (cur : Current) (ids states out : List ℕ) → goodActive active ≡ true → goodStatuses ids states ≡ true
-      → scanVisibleCall (g .pool) (g .state) xmax active cur ids states out ≡ listing (records (scanRows (lookup ids states) active xmax cur (chain t))) out
+  tells-scan : (sn : Snapshot) (ss : Statuses) (out : List ℕ) → goodSnapshot sn ≡ true → goodStatuses ss ≡ true
+      → scanVisibleCall (g .pool) (g .state) sn ss out ≡ listing (records (scanRows sn (lookup ss) (chain t))) out
   unfolding scanVisibleCall scanRun scanTree
-  tells-scan xmax active cur ids states out a s =
+  tells-scan sn ss out a s =
       rw (
         tree .good,
         a,

@@ -6,19 +6,19 @@ use mathlib.Core.Option.{Option, none, some}
 use Prim.Native.Nat.{ℕ}
 use Rattle.page.specs.Page.{page}
 use Rattle.leaf.specs.Rows.{Row, rowOf}
-use Rattle.mvcc.specs.Lists.{lookup, goodActive, goodStatuses}
+use Rattle.mvcc.specs.Snapshot.{lookup, goodStatuses, Snapshot, Statuses, creatorOf, goodSnapshot}
 use Rattle.mvcc.specs.Rules.{changedAfter}
-use Rattle.mvcc.specs.declared.Current.{Current}
 use Rattle.tree_grow.specs.Grow.{Grown}
-use Rattle.call_read.specs.Answer.{refused, ended}
+use Rattle.call_answers.specs.Answer.{refused, ended}
 use Rattle.call_stamp.specs.Claim.{claimCall}
 use Rattle.call_read.specs.Find.{findVisibleRun}
-use Rattle.call_read.specs.declared.Looked.{Looked}
+use Rattle.call_answers.specs.declared.Looked.{Looked}
 use Rattle.theory_tree.specs.Shape.{Shape, chain}
 use Rattle.theory_tree.specs.Versions.{SameVersions, best}
 use Rattle.meaning.specs.Trees.{TreeIn}
 use Rattle.meaning.specs.Change.{Change, claims, keyOf, Fits, Ran, run, Roomy}
 use Rattle.meaning.specs.Meant.{seenBy, meant}
+use Rattle.call_answers.specs.Names.{Conflict}
 
 -- the answer is the one that is meant, and so are the versions of the tree after it, which is well-formed: in particular no
 -- call says BadTree there
@@ -40,8 +40,8 @@ rowFound s (Looked.Refused r) = none
 
 abbrev pub LookupIs : Type 0
 LookupIs =
-    (g : Grown) (t : Shape) (key xmax : ℕ) (active : List ℕ) (cur : Current) (ids states : List ℕ) → TreeIn g t → goodActive active ≡ true → goodStatuses ids states ≡ true
-    → rowFound (g .pool) (findVisibleRun (g .pool) (g .state) key xmax active cur ids states) ≡ best (seenBy (lookup ids states) active xmax cur) key (chain t)
+    (g : Grown) (t : Shape) (key : ℕ) (sn : Snapshot) (ss : Statuses) → TreeIn g t → goodSnapshot sn ≡ true → goodStatuses ss ≡ true
+    → rowFound (g .pool) (findVisibleRun (g .pool) (g .state) key sn ss) ≡ best (seenBy sn (lookup ss)) key (chain t)
 
 -- "both give each call the same result, the tree state's numbers aside, and leave a well-formed tree with the same versions of
 -- every key, taken by creator number, then arrival"
@@ -64,13 +64,12 @@ Commute =
 
 -- "If two different nonzero transactions there, each at or above the other's xmax or in its active list, would each alone
 -- succeed in claiming the same version, the first to call gets it, and the second gets Conflict with no byte changed."
-abbrev pub Warned : (key xmax : ℕ) → List ℕ → Current → (ids states : List ℕ) → Grown → Type 0
-Warned key xmax active cur ids states h = claimCall (h .pool) (h .state) key xmax active cur ids states ≡ ended (refused 7) (h .pool)
+abbrev pub Warned : Grown → (key : ℕ) → Snapshot → Statuses → Type 0
+Warned h key sn ss = claimCall (h .pool) (h .state) key sn ss ≡ ended (refused Conflict) (h .pool)
 
 abbrev pub FirstClaims : Type 0
 FirstClaims =
-    (g : Grown) (t : Shape) (key x₁ x₂ c₁ c₂ : ℕ) (a₁ a₂ ids states : List ℕ) → TreeIn g t → Fits (claims key x₁ a₁ (Current.Tx c₁) ids states)
-    → Fits (claims key x₂ a₂ (Current.Tx c₂) ids states) → (c₁ ≡ c₂ → ⊥) → changedAfter a₁ x₁ c₂ ≡ true → changedAfter a₂ x₂ c₁ ≡ true
-    → run (claims key x₁ a₁ (Current.Tx c₁) ids states) g .number ≡ 0 → run (claims key x₂ a₂ (Current.Tx c₂) ids states) g .number ≡ 0
-    → findVisibleRun (g .pool) (g .state) key x₁ a₁ (Current.Tx c₁) ids states ≡ findVisibleRun (g .pool) (g .state) key x₂ a₂ (Current.Tx c₂) ids states
-    → Warned key x₂ a₂ (Current.Tx c₂) ids states (run (claims key x₁ a₁ (Current.Tx c₁) ids states) g .after)
+    (g : Grown) (t : Shape) (key : ℕ) (one two : Snapshot) (ss : Statuses) → TreeIn g t → Fits (claims key one ss) → Fits (claims key two ss)
+    → (creatorOf (one .current) ≡ creatorOf (two .current) → ⊥) → changedAfter one (creatorOf (two .current)) ≡ true
+    → changedAfter two (creatorOf (one .current)) ≡ true → run (claims key one ss) g .number ≡ 0 → run (claims key two ss) g .number ≡ 0
+    → findVisibleRun (g .pool) (g .state) key one ss ≡ findVisibleRun (g .pool) (g .state) key two ss → Warned (run (claims key one ss) g .after) key two ss

@@ -12,6 +12,7 @@ use Rattle.theory_tree.specs.Shape.{Shape, Deep}
 use Rattle.meaning.specs.Trees.{TreeIn}
 use Rattle.meaning.specs.Change.{claims, Fits, run}
 use Rattle.meaning.specs.Demand.{Warned}
+use Rattle.mvcc.specs.Snapshot.{snapshot, Snapshot, noStatuses}
 
 -- a tree with n levels below its root
 pub record TreeOf (n : ℕ) : Type 0 where
@@ -24,23 +25,27 @@ pub record ManyLevels : Type 0 where
   pub two : TreeOf 1
   pub three : TreeOf 2
 
--- transactions 15 and 16 both run, and both claim key 7
+-- transactions 15 and 16 both run: what one of them sees by
+abbrev pub teacher : ℕ → Snapshot
+teacher c = snapshot 20 (15 ∷ 16 ∷ []) (Current.Tx c)
+
+-- and both claim key 7
 pub record TwoClaimants : Type 0 where
   pub pool : Grown
   pub shape : Shape
   pub tree : TreeIn pool shape
-  pub first-fits : Fits (claims 7 20 (15 ∷ 16 ∷ []) (Current.Tx 15) [] [])
-  pub second-fits : Fits (claims 7 20 (15 ∷ 16 ∷ []) (Current.Tx 16) [] [])
+  pub first-fits : Fits (claims 7 (teacher 15) noStatuses)
+  pub second-fits : Fits (claims 7 (teacher 16) noStatuses)
   pub apart : _≡_ {A = ℕ} 15 16 → ⊥
-  pub first-after : changedAfter (15 ∷ 16 ∷ []) 20 15 ≡ true
-  pub second-after : changedAfter (15 ∷ 16 ∷ []) 20 16 ≡ true
-  pub first-done : run (claims 7 20 (15 ∷ 16 ∷ []) (Current.Tx 15) [] []) pool .number ≡ 0
-  pub second-done : run (claims 7 20 (15 ∷ 16 ∷ []) (Current.Tx 16) [] []) pool .number ≡ 0
-  pub same : findVisibleRun (pool .pool) (pool .state) 7 20 (15 ∷ 16 ∷ []) (Current.Tx 15) [] []
-      ≡ findVisibleRun (pool .pool) (pool .state) 7 20 (15 ∷ 16 ∷ []) (Current.Tx 16) [] []
+  pub first-after : changedAfter (teacher 16) 15 ≡ true
+  pub second-after : changedAfter (teacher 15) 16 ≡ true
+  pub first-done : run (claims 7 (teacher 15) noStatuses) pool .number ≡ 0
+  pub second-done : run (claims 7 (teacher 16) noStatuses) pool .number ≡ 0
+  pub same : findVisibleRun (pool .pool) (pool .state) 7 (teacher 15) noStatuses
+      ≡ findVisibleRun (pool .pool) (pool .state) 7 (teacher 16) noStatuses
 
 -- and so the second is warned
 abbrev pub SecondWarned : Type 0
 SecondWarned =
     (x : TwoClaimants)
-    → Warned 7 20 (15 ∷ 16 ∷ []) (Current.Tx 16) [] [] (run (claims 7 20 (15 ∷ 16 ∷ []) (Current.Tx 15) [] []) (x .pool) .after)
+    → Warned (run (claims 7 (teacher 15) noStatuses) (x .pool) .after) 7 (teacher 16) noStatuses

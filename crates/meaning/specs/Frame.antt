@@ -7,15 +7,16 @@ use Rattle.page.specs.Page.{page}
 use Rattle.mvcc.specs.Lists.{mem}
 use Rattle.tree_grow.specs.Grow.{Grown}
 use Rattle.call_clean.specs.Vacuum.{vacuumCall}
-use Rattle.theory_tree.specs.Shape.{Shape, pages}
+use Rattle.theory_tree.specs.Shape.{Shape, pagesIn}
 use Rattle.meaning.specs.Trees.{TreeIn}
 use Rattle.meaning.specs.Change.{Change, Fits, run}
+use Rattle.mvcc.specs.Snapshot.{Statuses}
 
 -- every page in use that is none of the tree's is as it was
 abbrev pub Elsewhere : Shape → (used : ℕ) → (before after : List ℕ) → Type 0
-Elsewhere t used before after = (x : ℕ) → x < used → mem x (pages t) ≡ false → page x after ≡ page x before
+Elsewhere t used before after = (x : ℕ) → x < used → mem x (pagesIn t) ≡ false → page x after ≡ page x before
 
 pub record Framed : Type 0 where
   pub changes : (a : Change) (g : Grown) (t : Shape) → TreeIn g t → Fits a → Elsewhere t (g .state .used) (g .pool) (run a g .after .pool)
-  pub vacuums : (g : Grown) (t : Shape) (bound : ℕ) (ids states : List ℕ) → TreeIn g t
-      → Elsewhere t (g .state .used) (g .pool) (vacuumCall (g .pool) (g .state) bound ids states .pool)
+  pub vacuums : (g : Grown) (t : Shape) (bound : ℕ) (ss : Statuses) → TreeIn g t
+      → Elsewhere t (g .state .used) (g .pool) (vacuumCall (g .pool) (g .state) ss bound .pool)

@@ -9,14 +9,15 @@ use lib.ListN.{length}
 use Rattle.store.specs.Pick.{pick}
 use Rattle.row.specs.declared.Stamp.{Stamp}
 use Rattle.row.specs.declared.Pointer.{Pointer}
-use Rattle.mvcc.specs.Lists.{lookup, goodActive, goodStatuses}
-use Rattle.mvcc.specs.Rules.{visible, claimConflicting, plainXmax, plainActive}
+use Rattle.mvcc.specs.Snapshot.{lookup, goodStatuses, creatorOf, Snapshot, Statuses, goodSnapshot, plainSnapshot}
+use Rattle.mvcc.specs.Rules.{visible, claimConflicting}
 use Rattle.mvcc.specs.declared.Current.{Current}
 use Rattle.leaf.specs.Rows.{Row}
 use Rattle.leaf_edit.specs.EditFacts.{stampRow}
-use Rattle.tree_insert.specs.Ready.{creatorOf}
 use Rattle.theory_tree.specs.Versions.{only, ofKey, ofVersion, best}
 use Rattle.meaning.specs.Change.{Change, inserts, insertsVersion, stamps, claims, removes}
+use Rattle.call_answers.specs.Names.{Absent, BadData, BadSnapshot, BadStatuses, Conflict, Duplicate, unless}
+use Rattle.row.specs.Write.{maxData}
 
 pub record Meant : Type 0 where
   pub number : ℕ
@@ -31,8 +32,8 @@ abbrev pub doneWith : List Row → Meant
 doneWith l = refusedAs 0 l
 
 -- the snapshot sees the row
-abbrev pub seenBy : (ℕ → ℕ) → List ℕ → ℕ → Current → Row → Bool
-seenBy st active xmax cur r = visible st active xmax cur (r .creator) (r .stamp)
+abbrev pub seenBy : Snapshot → (ℕ → ℕ) → Row → Bool
+seenBy sn st r = visible sn st (r .creator) (r .stamp)
 
 -- "A new version goes after equals of its key and creator"
 abbrev pub arriving : Row → List Row → List Row
@@ -56,8 +57,8 @@ abbrev pub stamped : (Row → Bool) → (key d : ℕ) → Row → List Row → L
 stamped v key d y l = changeLast (λ x. ofVersion key (y .creator) x && v x) (stampRow d) l
 
 -- "Conflict against a seen creator number holds if some version of the key .."
-abbrev pub conflictIn : (ℕ → ℕ) → List ℕ → ℕ → Current → (seen key : ℕ) → List Row → Bool
-conflictIn st active xmax cur seen key l = someOf (λ x. ofKey key x && claimConflicting st active xmax cur seen (x .creator) (x .stamp)) l
+abbrev pub conflictIn : (key : ℕ) → Snapshot → (ℕ → ℕ) → (seen : ℕ) → List Row → Bool
+conflictIn key sn st seen l = someOf (λ x. ofKey key x && claimConflicting sn st seen (x .creator) (x .stamp)) l
 
 abbrev pub liveRow : (key creator : ℕ) → List ℕ → Row
 liveRow key creator body = record { key = key; creator = creator; stamp = Stamp.Absent; pointer = Pointer.Absent; body = body }
@@ -65,42 +66,38 @@ liveRow key creator body = record { key = key; creator = creator; stamp = Stamp.
 -- ---- the five calls; refusals in section 6's order
 
 -- 4, 5, 6
-unfoldable pub meantInsert : (key : ℕ) → List ℕ → Current → (ids states : List ℕ) → List Row → Meant
-meantInsert key body cur ids states l =
-    pick (goodStatuses ids states)
-    (pick (leb (length body) 4051)
-    (onBest (doneWith (arriving (liveRow key (creatorOf cur) body) l)) (λ y. refusedAs 6 l) (best (seenBy (lookup ids states) plainActive plainXmax cur) key l))
-    (refusedAs 5 l))
-    (refusedAs 4 l)
+unfoldable pub meantInsert : (key : ℕ) → Current → Statuses → List ℕ → List Row → Meant
+meantInsert key cur ss body l =
+    unless (goodStatuses ss) (refusedAs BadStatuses l)
+    (unless (leb (length body) maxData) (refusedAs BadData l)
+    (onBest (doneWith (arriving (liveRow key (creatorOf cur) body) l)) (λ y. refusedAs Duplicate l) (best (seenBy (plainSnapshot cur) (lookup ss)) key l)))
 
 -- 5
 unfoldable pub meantVersion : Row → List Row → Meant
-meantVersion r l = pick (leb (length (r .body)) 4051) (doneWith (arriving r l)) (refusedAs 5 l)
+meantVersion r l = unless (leb (length (r .body)) maxData) (refusedAs BadData l) (doneWith (arriving r l))
 
 -- 3, 4, 8; `more` is what a claim asks of the chosen version before it is stamped
-unfoldable pub meantMark : (more : Row → Bool) → (key d xmax : ℕ) → List ℕ → Current → (ids states : List ℕ) → List Row → Meant
-meantMark more key d xmax active cur ids states l =
-    pick (goodActive active)
-    (pick (goodStatuses ids states)
-    (onBest (refusedAs 8 l) (λ y. pick (more y) (refusedAs 7 l) (doneWith (stamped (seenBy (lookup ids states) active xmax cur) key d y l)))
-    (best (seenBy (lookup ids states) active xmax cur) key l))
-    (refusedAs 4 l))
-    (refusedAs 3 l)
+unfoldable pub meantMark : (key : ℕ) → Snapshot → Statuses → (d : ℕ) → (more : Row → Bool) → List Row → Meant
+meantMark key sn ss d more l =
+    unless (goodSnapshot sn) (refusedAs BadSnapshot l)
+    (unless (goodStatuses ss) (refusedAs BadStatuses l)
+    (onBest (refusedAs Absent l) (λ y. pick (more y) (refusedAs Conflict l) (doneWith (stamped (seenBy sn (lookup ss)) key d y l)))
+    (best (seenBy sn (lookup ss)) key l)))
 
 -- 3, 4, 8, 7: "claim with no current, or current 0" is 3
-unfoldable pub meantClaim : (key xmax : ℕ) → List ℕ → Current → (ids states : List ℕ) → List Row → Meant
-meantClaim key xmax active cur ids states l =
-    pick (eqb (creatorOf cur) 0) (refusedAs 3 l)
-    (meantMark (λ y. conflictIn (lookup ids states) active xmax cur (y .creator) key l) key (creatorOf cur) xmax active cur ids states l)
+unfoldable pub meantClaim : (key : ℕ) → Snapshot → Statuses → List Row → Meant
+meantClaim key sn ss l =
+    pick (eqb (creatorOf (sn .current)) 0) (refusedAs BadSnapshot l)
+    (meantMark key sn ss (creatorOf (sn .current)) (λ y. conflictIn key sn (lookup ss) (y .creator) l) l)
 
 -- "Remove drops every version of its key"
 unfoldable pub meantRemove : (key : ℕ) → List Row → Meant
 meantRemove key l = record { number = 0; dropped = length (only (ofKey key) l); rows = only (λ x. not (ofKey key x)) l }
 
 unfoldable pub meant : Change → List Row → Meant
-meant (inserts key body cur ids states) l = meantInsert key body cur ids states l
+meant (inserts key cur ss body) l = meantInsert key cur ss body l
 meant (insertsVersion key creator stamp pointer body) l =
     meantVersion (record { key = key; creator = creator; stamp = stamp; pointer = pointer; body = body }) l
-meant (stamps key d xmax active cur ids states) l = meantMark (λ y. false) key d xmax active cur ids states l
-meant (claims key xmax active cur ids states) l = meantClaim key xmax active cur ids states l
+meant (stamps key sn ss d) l = meantMark key sn ss d (λ y. false) l
+meant (claims key sn ss) l = meantClaim key sn ss l
 meant (removes key) l = meantRemove key l

@@ -10,9 +10,8 @@ use Rattle.row.specs.declared.Stamp.{Stamp}
 use Rattle.row.specs.declared.Pointer.{Pointer}
 use Rattle.mvcc.specs.Lists.{mem}
 use Rattle.mvcc.specs.declared.Current.{Current}
-use Rattle.list_records.specs.Listed.{Written}
-use Rattle.call_read.specs.Answer.{Outcome, nothing, Ended}
-use Rattle.call_read.specs.Create.{createCall, createAfter}
+use Rattle.call_answers.specs.Answer.{Written, Ended, Outcome, nothing}
+use Rattle.call_read.specs.Create.{createCall}
 use Rattle.call_read.specs.Find.{findVisibleCall, findCall}
 use Rattle.call_read.specs.Conflict.{conflictCall}
 use Rattle.call_read.specs.Check.{checkCall}
@@ -24,6 +23,8 @@ use Rattle.call_stamp.specs.Mark.{markCall, markPlainCall, deleteCall}
 use Rattle.call_stamp.specs.Claim.{claimCall}
 use Rattle.call_clean.specs.Remove.{removeCall}
 use Rattle.call_clean.specs.Vacuum.{vacuumCall}
+use Rattle.mvcc.specs.Snapshot.{Snapshot, Statuses}
+use Rattle.call_answers.specs.Names.{Short, Absent, BadData, BadPool, BadSnapshot, BadStatuses, BadTree, Conflict, Duplicate, NoPages, TooDeep, Undividable}
 
 -- the answer is Done or one of these refusals, which gives nothing
 pub record Refuses {A : Type 0} (numbers : List ℕ) (o : Outcome A) : Type 0 where
@@ -41,33 +42,32 @@ pub record KeepsOutput (out numbers : List ℕ) (w : Written (Outcome ℕ)) : Ty
   pub stays : (w .answer .number ≡ 0 → ⊥) → w .output ≡ out
 
 pub record ReadsRefuse : Type 0 where
-  pub create : (s : List ℕ) (st : State) → Refuses (1 ∷ 10 ∷ []) (createCall s st)
-  pub create-stays : (s : List ℕ) (st : State) → (createCall s st .number ≡ 0 → ⊥) → createAfter s st ≡ s
-  pub check : (s : List ℕ) (st : State) → Refuses (1 ∷ []) (checkCall s st)
-  pub find-visible : (s : List ℕ) (st : State) (key xmax : ℕ) (active : List ℕ) (cur : Current) (ids states : List ℕ)
-      → Refuses (1 ∷ 3 ∷ 4 ∷ 2 ∷ 8 ∷ []) (findVisibleCall s st key xmax active cur ids states)
-  pub find : (s : List ℕ) (st : State) (key : ℕ) (cur : Current) (ids states : List ℕ) → Refuses (1 ∷ 4 ∷ 2 ∷ 8 ∷ []) (findCall s st key cur ids states)
-  pub conflict : (s : List ℕ) (st : State) (key seen xmax : ℕ) (active : List ℕ) (cur : Current)
-      → Refuses (1 ∷ 3 ∷ 2 ∷ []) (conflictCall s st key seen xmax active cur)
-  pub versions-of : (s : List ℕ) (st : State) (key : ℕ) (out : List ℕ) → KeepsOutput out (1 ∷ 2 ∷ 12 ∷ []) (versionsOfCall s st key out)
-  pub all-versions : (s : List ℕ) (st : State) (out : List ℕ) → KeepsOutput out (1 ∷ 2 ∷ 12 ∷ []) (allVersionsCall s st out)
-  pub scan-visible : (s : List ℕ) (st : State) (xmax : ℕ) (active : List ℕ) (cur : Current) (ids states out : List ℕ)
-      → KeepsOutput out (1 ∷ 3 ∷ 4 ∷ 2 ∷ 12 ∷ []) (scanVisibleCall s st xmax active cur ids states out)
-  pub page-numbers : (s : List ℕ) (st : State) (out : List ℕ) → KeepsOutput out (1 ∷ 2 ∷ 12 ∷ []) (pageNumbersCall s st out)
+  pub create : (s : List ℕ) (st : State) → Keeps s (BadPool ∷ NoPages ∷ []) (createCall s st)
+  pub check : (s : List ℕ) (st : State) → Refuses (BadPool ∷ []) (checkCall s st)
+  pub find-visible : (s : List ℕ) (st : State) (key : ℕ) (sn : Snapshot) (ss : Statuses)
+      → Refuses (BadPool ∷ BadSnapshot ∷ BadStatuses ∷ BadTree ∷ Absent ∷ []) (findVisibleCall s st key sn ss)
+  pub find : (s : List ℕ) (st : State) (key : ℕ) (cur : Current) (ss : Statuses) → Refuses (BadPool ∷ BadStatuses ∷ BadTree ∷ Absent ∷ []) (findCall s st key cur ss)
+  pub conflict : (s : List ℕ) (st : State) (key seen : ℕ) (sn : Snapshot)
+      → Refuses (BadPool ∷ BadSnapshot ∷ BadTree ∷ []) (conflictCall s st key sn seen)
+  pub versions-of : (s : List ℕ) (st : State) (key : ℕ) (out : List ℕ) → KeepsOutput out (BadPool ∷ BadTree ∷ Short ∷ []) (versionsOfCall s st key out)
+  pub all-versions : (s : List ℕ) (st : State) (out : List ℕ) → KeepsOutput out (BadPool ∷ BadTree ∷ Short ∷ []) (allVersionsCall s st out)
+  pub scan-visible : (s : List ℕ) (st : State) (sn : Snapshot) (ss : Statuses) (out : List ℕ)
+      → KeepsOutput out (BadPool ∷ BadSnapshot ∷ BadStatuses ∷ BadTree ∷ Short ∷ []) (scanVisibleCall s st sn ss out)
+  pub page-numbers : (s : List ℕ) (st : State) (out : List ℕ) → KeepsOutput out (BadPool ∷ BadTree ∷ Short ∷ []) (pageNumbersCall s st out)
 
 -- a stamp is never Undividable: 9 is none of its refusals, whatever bytes the pool has
 pub record WritesRefuse : Type 0 where
-  pub insert : (s : List ℕ) (st : State) (key : ℕ) (body : List ℕ) (cur : Current) (ids states : List ℕ)
-      → Keeps s (1 ∷ 4 ∷ 5 ∷ 2 ∷ 6 ∷ 9 ∷ 11 ∷ 10 ∷ []) (insertCall s st key body cur ids states)
+  pub insert : (s : List ℕ) (st : State) (key : ℕ) (body : List ℕ) (cur : Current) (ss : Statuses)
+      → Keeps s (BadPool ∷ BadStatuses ∷ BadData ∷ BadTree ∷ Duplicate ∷ Undividable ∷ TooDeep ∷ NoPages ∷ []) (insertCall s st key cur ss body)
   pub insert-version : (s : List ℕ) (st : State) (key creator : ℕ) (stamp : Stamp) (pointer : Pointer) (body : List ℕ)
-      → Keeps s (1 ∷ 5 ∷ 2 ∷ 9 ∷ 11 ∷ 10 ∷ []) (insertVersionCall s st key creator stamp pointer body)
-  pub mark : (s : List ℕ) (st : State) (key d xmax : ℕ) (active : List ℕ) (cur : Current) (ids states : List ℕ) → AreBytes s
-      → Keeps s (1 ∷ 3 ∷ 4 ∷ 2 ∷ 8 ∷ 11 ∷ 10 ∷ []) (markCall s st key d xmax active cur ids states)
-  pub mark-plain : (s : List ℕ) (st : State) (key d : ℕ) (cur : Current) (ids states : List ℕ) → AreBytes s
-      → Keeps s (1 ∷ 4 ∷ 2 ∷ 8 ∷ 11 ∷ 10 ∷ []) (markPlainCall s st key d cur ids states)
-  pub delete : (s : List ℕ) (st : State) (key : ℕ) (cur : Current) (ids states : List ℕ) → AreBytes s
-      → Keeps s (1 ∷ 4 ∷ 2 ∷ 8 ∷ 11 ∷ 10 ∷ []) (deleteCall s st key cur ids states)
-  pub claim : (s : List ℕ) (st : State) (key xmax : ℕ) (active : List ℕ) (cur : Current) (ids states : List ℕ) → AreBytes s
-      → Keeps s (1 ∷ 3 ∷ 4 ∷ 2 ∷ 8 ∷ 7 ∷ 11 ∷ 10 ∷ []) (claimCall s st key xmax active cur ids states)
-  pub remove : (s : List ℕ) (st : State) (key : ℕ) → Keeps s (1 ∷ 2 ∷ []) (removeCall s st key)
-  pub vacuum : (s : List ℕ) (st : State) (bound : ℕ) (ids states : List ℕ) → Keeps s (1 ∷ 4 ∷ 2 ∷ []) (vacuumCall s st bound ids states)
+      → Keeps s (BadPool ∷ BadData ∷ BadTree ∷ Undividable ∷ TooDeep ∷ NoPages ∷ []) (insertVersionCall s st key creator stamp pointer body)
+  pub mark : (s : List ℕ) (st : State) (key d : ℕ) (sn : Snapshot) (ss : Statuses) → AreBytes s
+      → Keeps s (BadPool ∷ BadSnapshot ∷ BadStatuses ∷ BadTree ∷ Absent ∷ TooDeep ∷ NoPages ∷ []) (markCall s st key sn ss d)
+  pub mark-plain : (s : List ℕ) (st : State) (key d : ℕ) (cur : Current) (ss : Statuses) → AreBytes s
+      → Keeps s (BadPool ∷ BadStatuses ∷ BadTree ∷ Absent ∷ TooDeep ∷ NoPages ∷ []) (markPlainCall s st key cur ss d)
+  pub delete : (s : List ℕ) (st : State) (key : ℕ) (cur : Current) (ss : Statuses) → AreBytes s
+      → Keeps s (BadPool ∷ BadStatuses ∷ BadTree ∷ Absent ∷ TooDeep ∷ NoPages ∷ []) (deleteCall s st key cur ss)
+  pub claim : (s : List ℕ) (st : State) (key : ℕ) (sn : Snapshot) (ss : Statuses) → AreBytes s
+      → Keeps s (BadPool ∷ BadSnapshot ∷ BadStatuses ∷ BadTree ∷ Absent ∷ Conflict ∷ TooDeep ∷ NoPages ∷ []) (claimCall s st key sn ss)
+  pub remove : (s : List ℕ) (st : State) (key : ℕ) → Keeps s (BadPool ∷ BadTree ∷ []) (removeCall s st key)
+  pub vacuum : (s : List ℕ) (st : State) (bound : ℕ) (ss : Statuses) → Keeps s (BadPool ∷ BadStatuses ∷ BadTree ∷ []) (vacuumCall s st ss bound)

@@ -6,7 +6,7 @@ use Rattle.page.specs.Pool.{goodPool}
 use Rattle.tree_grow.specs.Grow.{Grown}
 use Rattle.theory_tree.specs.Shape.{Shape, WellFormed}
 use Rattle.theory_tree.specs.View.{view}
-use Rattle.call_read.specs.Answer.{done}
+use Rattle.call_answers.specs.Answer.{done}
 use Rattle.call_read.specs.Check.{checkCall}
 
 -- the pool is bytes and no BadPool, and its pages hold the tree t

@@ -13,8 +13,11 @@ use lib.Seq.{drop-cons}
 use lib.Dec.{ltb, leb, eqb}
 use borrow.Author.Tests.{ltb-true, eqb-true, eqb-false, lt-ltb, le-ltb, le-leb, lt-leb, eq-eqb, ne-eqb}
 use Rattle.store.specs.Pick.{pick}
+use Rattle.mvcc.specs.Lists.{rising, risingFrom, areStates, mem, goodActive, stateAt}
+use Rattle.mvcc.specs.Steps.Lists.{below}
+use Rattle.mvcc.specs.Snapshot.{goodStatuses, Statuses, statuses}
+use Rattle.mvcc.specs.Steps.Snapshot.{StatusesJudged}
 use Rattle.store.proofs.PartLaws.{le-or-lt}
-use Rattle.mvcc.specs.Lists.{rising, risingFrom, areStates, mem, lookup, below, goodActive, goodStatuses, Judged}
 
 -- ---- the turns of the loop that judges a rising list
 
@@ -137,8 +140,8 @@ mem-none x (y ∷ ys) n =
     rw (ne-eqb y x (n 0 (suc-le-suc zero-le))) (mem-none x ys (λ k h. n (suc k) (suc-le-suc h)))
 
 pub lookup-at : (x : ℕ) (is ss : List ℕ) (m : ℕ) → rising is ≡ true → m < length is → m < length ss → getD is m 0 ≡ x
-    → lookup is ss x ≡ getD ss m 0
-unfolding lookup
+    → stateAt is ss x ≡ getD ss m 0
+unfolding stateAt
 lookup-at x [] ss m r h g e = absurd (not-suc-le-zero h)
 lookup-at x (i ∷ is) [] m r h g e = absurd (not-suc-le-zero g)
 lookup-at x (i ∷ is) (s ∷ ss) zero r h g e = rw (eq-eqb i x e)
@@ -146,8 +149,8 @@ lookup-at x (i ∷ is) (s ∷ ss) (suc m) r h g e =
     let lt = first-least i is r m (le-of-suc-le-suc h) in
     rw (ne-eqb i x (λ q. omega arith)) (lookup-at x is ss m (tail-rises i is r) (le-of-suc-le-suc h) (le-of-suc-le-suc g) e)
 
-lookup-none : (x : ℕ) (is ss : List ℕ) → ((k : ℕ) → k < length is → getD is k 0 ≡ x → ⊥) → lookup is ss x ≡ 0
-unfolding lookup
+lookup-none : (x : ℕ) (is ss : List ℕ) → ((k : ℕ) → k < length is → getD is k 0 ≡ x → ⊥) → stateAt is ss x ≡ 0
+unfolding stateAt
 lookup-none x [] ss n = refl
 lookup-none x (i ∷ is) [] n = refl
 lookup-none x (i ∷ is) (s ∷ ss) n =
@@ -166,10 +169,10 @@ module _ (x : ℕ) (l : List ℕ) (i : ℕ) (rises : rising l ≡ true) (at : i 
       go true e = sym (mem-at x l i h (eqb-true _ _ e))
       go false e = sym (mem-none x l (miss x l i rises at (λ _. eqb-false _ _ e)))
 
-  pub lookup-past : (ss : List ℕ) → length l ≤ i → 0 ≡ lookup l ss x
+  pub lookup-past : (ss : List ℕ) → length l ≤ i → 0 ≡ stateAt l ss x
   lookup-past ss h = sym (lookup-none x l ss (miss x l i rises at (λ u _. omega arith)))
 
-  pub lookup-other : (ss : List ℕ) → (getD l i 0 ≡ x → ⊥) → 0 ≡ lookup l ss x
+  pub lookup-other : (ss : List ℕ) → (getD l i 0 ≡ x → ⊥) → 0 ≡ stateAt l ss x
   lookup-other ss n = sym (lookup-none x l ss (miss x l i rises at (λ _. n)))
 
 -- ---- the judgements, way out by way out
@@ -182,22 +185,22 @@ pub active-rest : (l : List ℕ) → length l ≤ 4096 → rising l ≡ goodActi
 unfolding goodActive
 active-rest l h = rw le-leb
 
-pub statuses-long : (is ss : List ℕ) → 65536 < length is → false ≡ goodStatuses is ss
+pub statuses-long : (is ss : List ℕ) → 65536 < length is → false ≡ goodStatuses (statuses is ss)
 unfolding goodStatuses
 statuses-long is ss h = rw lt-leb
 
-pub statuses-unlike : (is ss : List ℕ) → length is ≤ 65536 → (length is ≡ length ss → ⊥) → false ≡ goodStatuses is ss
+pub statuses-unlike : (is ss : List ℕ) → length is ≤ 65536 → (length is ≡ length ss → ⊥) → false ≡ goodStatuses (statuses is ss)
 unfolding goodStatuses
 statuses-unlike is ss h n = rw (le-leb, ne-eqb)
 
-pub statuses-both : (is ss : List ℕ) → length is ≤ 65536 → length is ≡ length ss → goodStatuses is ss ≡ (rising is && areStates ss)
+pub statuses-both : (is ss : List ℕ) → length is ≤ 65536 → length is ≡ length ss → goodStatuses (statuses is ss) ≡ (rising is && areStates ss)
 unfolding goodStatuses
 statuses-both is ss h e = rw (le-leb, eq-eqb (length is) (length ss) e)
 
-pub statuses-fallen : (is ss : List ℕ) → length is ≤ 65536 → length is ≡ length ss → rising is ≡ false → false ≡ goodStatuses is ss
+pub statuses-fallen : (is ss : List ℕ) → length is ≤ 65536 → length is ≡ length ss → rising is ≡ false → false ≡ goodStatuses (statuses is ss)
 statuses-fallen is ss h e r = rw (statuses-both, r)
 
-pub statuses-rest : (is ss : List ℕ) → length is ≤ 65536 → length is ≡ length ss → rising is ≡ true → areStates ss ≡ goodStatuses is ss
+pub statuses-rest : (is ss : List ℕ) → length is ≤ 65536 → length is ≡ length ss → rising is ≡ true → areStates ss ≡ goodStatuses (statuses is ss)
 statuses-rest is ss h e r = rw (statuses-both, r)
 
 -- ---- what a good list gives its readers
@@ -206,9 +209,9 @@ pub good-active-rises : (l : List ℕ) → goodActive l ≡ true → rising l �
 unfolding goodActive
 good-active-rises l e = and-eq-true-iff (leb (length l) 4096) (rising l) .0 e .1
 
-pub good-statuses-judged : (is ss : List ℕ) → goodStatuses is ss ≡ true → Judged is ss
+pub good-statuses-judged : (l : Statuses) → goodStatuses l ≡ true → StatusesJudged l
 unfolding goodStatuses
-good-statuses-judged is ss e =
-    let p = and-eq-true-iff (leb (length is) 65536) (eqb (length is) (length ss) && (rising is && areStates ss)) .0 e .1 in
-    let q = and-eq-true-iff (eqb (length is) (length ss)) (rising is && areStates ss) .0 p in
-    record { rises = and-eq-true-iff (rising is) (areStates ss) .0 (q .1) .0; same = eqb-true _ _ (q .0) }
+good-statuses-judged l e =
+    let p = and-eq-true-iff (leb (length (l .ids)) 65536) (eqb (length (l .ids)) (length (l .states)) && (rising (l .ids) && areStates (l .states))) .0 e .1 in
+    let q = and-eq-true-iff (eqb (length (l .ids)) (length (l .states))) (rising (l .ids) && areStates (l .states)) .0 p in
+    record { rises = and-eq-true-iff (rising (l .ids)) (areStates (l .states)) .0 (q .1) .0; same = eqb-true _ _ (q .0) }

@@ -8,9 +8,11 @@ use borrow.Author.Tests.{lt-ltb, le-ltb, le-leb, lt-leb, eq-eqb, ne-eqb}
 use Rattle.row.specs.declared.Stamp.{Stamp}
 use Rattle.mvcc.specs.Lists.{mem}
 use Rattle.mvcc.specs.Rules.{isCurrent, ofDeleter, finishedWith, finishedBefore, hiding, visible, changedAfter, intruding, conflicting}
-use Rattle.mvcc.specs.Vacuum.{abortedCreator, removableDeleter, abortedDeleter, dropped, fate, stampedFate}
+use Rattle.mvcc.specs.Vacuum.{abortedCreator, removableDeleter, abortedDeleter, dropped, fate}
+use Rattle.mvcc.specs.Steps.Vacuum.{stampedFate}
 use Rattle.mvcc.specs.declared.Current.{Current}
 use Rattle.mvcc.specs.declared.vacuum.Fate.{Fate}
+use Rattle.mvcc.specs.Snapshot.{Snapshot, snapshot}
 
 -- ---- a rule of the deleter
 
@@ -25,99 +27,100 @@ module _ (rule : ℕ → Bool) (stamp : Stamp) where
 
 -- ---- finished before
 
-module _ (s : ℕ) (active : List ℕ) (xmax t : ℕ) where
-  pub finished-zero : t ≡ 0 → true ≡ finishedWith s active xmax t
+module _ (xmax : ℕ) (active : List ℕ) (s t : ℕ) where
+  pub finished-zero : t ≡ 0 → true ≡ finishedWith xmax active s t
   unfolding finishedWith
   finished-zero e = rw (eq-eqb t 0 e)
 
   module _ (n : t ≡ 0 → ⊥) where
-    pub unfinished-late : xmax ≤ t → false ≡ finishedWith s active xmax t
+    pub unfinished-late : xmax ≤ t → false ≡ finishedWith xmax active s t
     unfolding finishedWith
     unfinished-late h = rw (ne-eqb t 0 n, le-ltb)
 
-    pub unfinished-running : s ≡ 1 → false ≡ finishedWith s active xmax t
+    pub unfinished-running : s ≡ 1 → false ≡ finishedWith xmax active s t
     unfolding finishedWith
     unfinished-running e = simp (ne-eqb t 0 n, eq-eqb s 1 e, and-false)
 
-    pub unfinished-aborted : s ≡ 3 → false ≡ finishedWith s active xmax t
+    pub unfinished-aborted : s ≡ 3 → false ≡ finishedWith xmax active s t
     unfolding finishedWith
     unfinished-aborted e = simp (ne-eqb t 0 n, eq-eqb s 3 e, or-true, and-false)
 
-    pub unfinished-active : mem t active ≡ true → false ≡ finishedWith s active xmax t
+    pub unfinished-active : mem t active ≡ true → false ≡ finishedWith xmax active s t
     unfolding finishedWith
     unfinished-active e = simp (ne-eqb t 0 n, e, and-false)
 
-    pub finished-else : t < xmax → (s ≡ 1 → ⊥) → (s ≡ 3 → ⊥) → mem t active ≡ false → true ≡ finishedWith s active xmax t
+    pub finished-else : t < xmax → (s ≡ 1 → ⊥) → (s ≡ 3 → ⊥) → mem t active ≡ false → true ≡ finishedWith xmax active s t
     unfolding finishedWith
     finished-else h a b e = simp (ne-eqb t 0 n, lt-ltb t xmax h, e, ne-eqb s 1 a, ne-eqb s 3 b)
 
-pub finished-at : (st : ℕ → ℕ) (active : List ℕ) (xmax t s : ℕ) → s ≡ st t → finishedWith s active xmax t ≡ finishedBefore st active xmax t
+pub finished-at : (sn : Snapshot) (st : ℕ → ℕ) (t s : ℕ) → s ≡ st t → finishedWith (sn .xmax) (sn .active) s t ≡ finishedBefore sn st t
 unfolding finishedBefore
-finished-at st active xmax t s is = rw is
+finished-at sn st t s is = rw is
 
 -- ---- visible
 
-module _ (st : ℕ → ℕ) (active : List ℕ) (xmax : ℕ) (cur : Current) where
+module _ (sn : Snapshot) (st : ℕ → ℕ) where
   -- the deleter d
   module _ (stamp : Stamp) (d : ℕ) (by : stamp ≡ Stamp.By d) where
-    pub hidden-own : isCurrent cur d ≡ true → true ≡ ofDeleter (hiding st active xmax cur) stamp
+    pub hidden-own : isCurrent (sn .current) d ≡ true → true ≡ ofDeleter (hiding sn st) stamp
     unfolding ofDeleter hiding
     hidden-own e = rw (by, e)
 
-    pub hidden-else : isCurrent cur d ≡ false → (s : ℕ) → s ≡ st d → finishedWith s active xmax d ≡ ofDeleter (hiding st active xmax cur) stamp
+    pub hidden-else : isCurrent (sn .current) d ≡ false → (s : ℕ) → s ≡ st d → finishedWith (sn .xmax) (sn .active) s d ≡ ofDeleter (hiding sn st) stamp
     unfolding ofDeleter hiding finishedBefore
     hidden-else e s is = rw (by, e, is)
 
   -- the creator c, whose state is s
   module _ (c : ℕ) (stamp : Stamp) (s : ℕ) (is : s ≡ st c) where
-    pub unseen-aborted : s ≡ 3 → false ≡ visible st active xmax cur c stamp
+    pub unseen-aborted : s ≡ 3 → false ≡ visible sn st c stamp
     unfolding visible
     unseen-aborted e = rw (← is, e)
 
     module _ (n : s ≡ 3 → ⊥) where
-      pub seen-own : isCurrent cur c ≡ true → not (ofDeleter (isCurrent cur) stamp) ≡ visible st active xmax cur c stamp
+      pub seen-own : isCurrent (sn .current) c ≡ true → not (ofDeleter (isCurrent (sn .current)) stamp) ≡ visible sn st c stamp
       unfolding visible
       seen-own e = rw (← is, ne-eqb s 3 n, e)
 
-      pub unseen-unfinished : isCurrent cur c ≡ false → finishedWith s active xmax c ≡ false → false ≡ visible st active xmax cur c stamp
+      pub unseen-unfinished : isCurrent (sn .current) c ≡ false → finishedWith (sn .xmax) (sn .active) s c ≡ false → false ≡ visible sn st c stamp
       unfolding visible finishedBefore
       unseen-unfinished e f = rw (← is, ne-eqb s 3 n, e, f)
 
-      pub seen-else : isCurrent cur c ≡ false → finishedWith s active xmax c ≡ true
-          → not (ofDeleter (hiding st active xmax cur) stamp) ≡ visible st active xmax cur c stamp
+      pub seen-else : isCurrent (sn .current) c ≡ false → finishedWith (sn .xmax) (sn .active) s c ≡ true
+          → not (ofDeleter (hiding sn st) stamp) ≡ visible sn st c stamp
       unfolding visible finishedBefore
       seen-else e f = rw (← is, ne-eqb s 3 n, e, f)
 
 -- ---- conflict
 
-module _ (active : List ℕ) (xmax t : ℕ) where
-  pub changed-late : xmax ≤ t → true ≡ changedAfter active xmax t
+module _ (sn : Snapshot) (t : ℕ) where
+  pub changed-late : sn .xmax ≤ t → true ≡ changedAfter sn t
   unfolding changedAfter
   changed-late h = rw le-leb
 
-  pub changed-else : t < xmax → mem t active ≡ changedAfter active xmax t
+  pub changed-else : t < sn .xmax → mem t (sn .active) ≡ changedAfter sn t
   unfolding changedAfter
   changed-else h = rw lt-leb
 
-  pub intruding-own : (cur : Current) → isCurrent cur t ≡ true → false ≡ intruding active xmax cur t
+  pub intruding-own : isCurrent (sn .current) t ≡ true → false ≡ intruding sn t
   unfolding intruding
-  intruding-own cur e = simp (e, and-false)
+  intruding-own e = simp (e, and-false)
 
-  pub intruding-else : (cur : Current) → isCurrent cur t ≡ false → changedAfter active xmax t ≡ intruding active xmax cur t
-  unfolding intruding
+  -- what changed after is asked for any current transaction: it plays no part in that
+  pub intruding-else : (cur : Current) → isCurrent (sn .current) t ≡ false → changedAfter (snapshot (sn .xmax) (sn .active) cur) t ≡ intruding sn t
+  unfolding intruding changedAfter
   intruding-else cur e = simp (e, and-true)
 
-module _ (active : List ℕ) (xmax : ℕ) (cur : Current) (seen c : ℕ) (stamp : Stamp) where
-  pub conflict-other : (c ≡ seen → ⊥) → intruding active xmax cur c ≡ conflicting active xmax cur seen c stamp
+module _ (sn : Snapshot) (seen c : ℕ) (stamp : Stamp) where
+  pub conflict-other : (c ≡ seen → ⊥) → intruding sn c ≡ conflicting sn seen c stamp
   unfolding conflicting
   conflict-other n = rw (ne-eqb c seen n)
 
   module _ (e : c ≡ seen) where
-    pub conflict-live : stamp ≡ Stamp.Absent → false ≡ conflicting active xmax cur seen c stamp
+    pub conflict-live : stamp ≡ Stamp.Absent → false ≡ conflicting sn seen c stamp
     unfolding conflicting ofDeleter
     conflict-live q = rw (eq-eqb c seen e, q)
 
-    pub conflict-stamped : (d : ℕ) → stamp ≡ Stamp.By d → {r : Bool} → r ≡ intruding active xmax cur d → r ≡ conflicting active xmax cur seen c stamp
+    pub conflict-stamped : (d : ℕ) → stamp ≡ Stamp.By d → {r : Bool} → r ≡ intruding sn d → r ≡ conflicting sn seen c stamp
     unfolding conflicting ofDeleter
     conflict-stamped d q i = rw (eq-eqb c seen e, q) i
 

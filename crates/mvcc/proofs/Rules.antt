@@ -6,36 +6,37 @@ use mathlib.Core.List.{List}
 use Prim.Native.Nat.{ℕ, _<_}
 use borrow.Author.Tests.{lt-ltb, eq-eqb, ne-eqb}
 use Rattle.row.specs.declared.Stamp.{Stamp}
-use Rattle.mvcc.specs.Lists.{mem, lookup}
+use Rattle.mvcc.specs.Lists.{mem, stateAt}
 use Rattle.mvcc.specs.Rules.{isCurrent, ofDeleter, finishedWith, finishedBefore, hiding, visible, changedAfter, intruding, conflicting, claimConflicting}
 use Rattle.mvcc.specs.Vacuum.{abortedCreator, removableDeleter, abortedDeleter, dropped, fate}
 use Rattle.mvcc.specs.Facts.{RulesHold}
 use Rattle.mvcc.specs.declared.Current.{Current}
+use Rattle.mvcc.specs.Snapshot.{Snapshot, snapshot}
 use Rattle.mvcc.proofs.RuleLaws.{finished-zero, unseen-aborted, seen-own}
 
-absent-finished : (st : ℕ → ℕ) (active : List ℕ) (xmax t : ℕ) → st t ≡ 0 → t < xmax → mem t active ≡ false → finishedBefore st active xmax t ≡ true
+absent-finished : (sn : Snapshot) (st : ℕ → ℕ) (t : ℕ) → st t ≡ 0 → t < sn .xmax → mem t (sn .active) ≡ false → finishedBefore sn st t ≡ true
 unfolding finishedBefore finishedWith
-absent-finished st active xmax t e h m = simp (e, lt-ltb t xmax h, m, or-true)
+absent-finished sn st t e h m = simp (e, lt-ltb t (sn .xmax) h, m, or-true)
 
-zero-finished : (st : ℕ → ℕ) (active : List ℕ) (xmax : ℕ) → finishedBefore st active xmax 0 ≡ true
+zero-finished : (sn : Snapshot) (st : ℕ → ℕ) → finishedBefore sn st 0 ≡ true
 unfolding finishedBefore
-zero-finished st active xmax = sym (finished-zero (st 0) active xmax 0 refl)
+zero-finished sn st = sym (finished-zero (sn .xmax) (sn .active) (st 0) 0 refl)
 
 -- a version of the current transaction
-module _ (st : ℕ → ℕ) (active : List ℕ) (xmax c : ℕ) where
+module _ (xmax : ℕ) (active : List ℕ) (st : ℕ → ℕ) (c : ℕ) where
   own-current : isCurrent (Current.Tx c) c ≡ true
   unfolding isCurrent
   own-current = eq-eqb c c refl
 
-  own-live : (st c ≡ 3 → ⊥) → visible st active xmax (Current.Tx c) c Stamp.Absent ≡ true
+  own-live : (st c ≡ 3 → ⊥) → visible (snapshot xmax active (Current.Tx c)) st c Stamp.Absent ≡ true
   unfolding ofDeleter
-  own-live n = sym (seen-own st active xmax (Current.Tx c) c Stamp.Absent (st c) refl n own-current)
+  own-live n = sym (seen-own (snapshot xmax active (Current.Tx c)) st c Stamp.Absent (st c) refl n own-current)
 
-  own-other : (d : ℕ) → (st c ≡ 3 → ⊥) → (d ≡ c → ⊥) → visible st active xmax (Current.Tx c) c (Stamp.By d) ≡ true
+  own-other : (d : ℕ) → (st c ≡ 3 → ⊥) → (d ≡ c → ⊥) → visible (snapshot xmax active (Current.Tx c)) st c (Stamp.By d) ≡ true
   unfolding ofDeleter isCurrent
-  own-other d n m = sym (seen-own st active xmax (Current.Tx c) c (Stamp.By d) (st c) refl n own-current) ∙ rw (ne-eqb d c m)
+  own-other d n m = sym (seen-own (snapshot xmax active (Current.Tx c)) st c (Stamp.By d) (st c) refl n own-current) ∙ rw (ne-eqb d c m)
 
-  own-gone : visible st active xmax (Current.Tx c) c (Stamp.By c) ≡ false
+  own-gone : visible (snapshot xmax active (Current.Tx c)) st c (Stamp.By c) ≡ false
   unfolding visible ofDeleter isCurrent
   own-gone = simp (eq-eqb c c refl, and-false)
 
@@ -44,11 +45,11 @@ unfolding removableDeleter ofDeleter
 unlisted-kept st bound d e = simp (e, and-false)
 
 pub rules-hold : RulesHold
-unfolding mem lookup isCurrent ofDeleter finishedWith finishedBefore hiding visible changedAfter intruding conflicting claimConflicting abortedCreator removableDeleter abortedDeleter dropped fate
+unfolding mem stateAt isCurrent ofDeleter finishedWith finishedBefore hiding visible changedAfter intruding conflicting claimConflicting abortedCreator removableDeleter abortedDeleter dropped fate
 rules-hold = record {
   absent-finished = absent-finished;
   zero-finished = zero-finished;
-  aborted-invisible = λ st active xmax cur c stamp e. sym (unseen-aborted st active xmax cur c stamp (st c) refl e);
+  aborted-invisible = λ sn st c stamp e. sym (unseen-aborted sn st c stamp (st c) refl e);
   own-live = own-live;
   own-other = own-other;
   own-gone = own-gone;
@@ -59,5 +60,5 @@ rules-hold = record {
   p7-absent = refl;
   p8-seen = refl;
   p8-no-conflict = refl;
-  claim-same = λ st active xmax cur seen c stamp. refl;
+  claim-same = λ sn st seen c stamp. refl;
 }

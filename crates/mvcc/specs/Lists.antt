@@ -27,26 +27,15 @@ unfoldable pub mem : ℕ → List ℕ → Bool
 mem x [] = false
 mem x (y ∷ ys) = eqb y x || mem x ys
 
--- the state of x in a status list, given as its transactions and their states; 0 where x is absent
-unfoldable pub lookup : List ℕ → List ℕ → ℕ → ℕ
-lookup (i ∷ is) (s ∷ ss) x = pick (eqb i x) s (lookup is ss x)
-lookup [] ss x = 0
-lookup (i ∷ is) [] x = 0
+-- the state beside x, of numbers and the states beside them; 0 where x is absent
+unfoldable pub stateAt : (ids states : List ℕ) → ℕ → ℕ
+stateAt (i ∷ is) (s ∷ ss) x = pick (eqb i x) s (stateAt is ss x)
+stateAt [] ss x = 0
+stateAt (i ∷ is) [] x = 0
 
--- how many stand before the first that is at least x: what the search by halves finds
-unfoldable pub below : ℕ → List ℕ → ℕ
-below x [] = 0
-below x (y ∷ ys) = pick (ltb y x) (suc (below x ys)) 0
+abbrev pub maxActive : ℕ
+maxActive = 4096
 
 -- BadSnapshot is "active list over 4096 or not strictly rising"; this is the rest
 unfoldable pub goodActive : List ℕ → Bool
-goodActive l = leb (length l) 4096 && rising l
-
--- BadStatuses is "over 65,536 entries, not strictly rising, state not 1 to 3"; this is the rest
-unfoldable pub goodStatuses : List ℕ → List ℕ → Bool
-goodStatuses is ss = leb (length is) 65536 && (eqb (length is) (length ss) && (rising is && areStates ss))
-
--- what a judged status list gives its readers
-pub record Judged (is ss : List ℕ) : Type 0 where
-  pub rises : rising is ≡ true
-  pub same : length is ≡ length ss
+goodActive l = leb (length l) maxActive && rising l

@@ -25,7 +25,3 @@ dropped st bound creator stamp = abortedCreator st creator || removableDeleter s
 
 unfoldable pub fate : (ℕ → ℕ) → ℕ → (creator : ℕ) → Stamp → Fate
 fate st bound creator stamp = pick (dropped st bound creator stamp) Fate.Dropped (pick (abortedDeleter st stamp) Fate.Cleared Fate.Same)
-
--- the fate of a version whose creator is not aborted, by its deleter d and the state s of d
-unfoldable pub stampedFate : (bound d s : ℕ) → Fate
-stampedFate bound d s = pick (ltb d bound && eqb s 2) Fate.Dropped (pick (eqb s 3) Fate.Cleared Fate.Same)

@@ -5,9 +5,10 @@ pub mod vacuum;
 
 ghost use mathlib.Core.Path.{_≡_};
 ghost use mathlib.Core.Bool.{true};
-ghost use Rattle.mvcc.specs.Lists.{rising, lookup, Judged};
-ghost use Rattle.mvcc.specs.Rules.{isCurrent, ofDeleter, finishedWith, finishedBefore, hiding, visible};
-ghost use Rattle.mvcc.specs.Rules.{changedAfter, intruding, conflicting, claimConflicting};
+ghost use Rattle.mvcc.specs.Lists.{rising};
+ghost use Rattle.mvcc.specs.Snapshot.{lookup, creatorOf, snapshot, statuses};
+ghost use Rattle.mvcc.specs.Steps.Snapshot.{StatusesJudged};
+ghost use Rattle.mvcc.specs.Rules.{isCurrent, ofDeleter, finishedWith, hiding, visible, changedAfter, intruding, conflicting, claimConflicting};
 use row::Stamp;
 
 // Nobody and Tx(0) are different inputs.
@@ -19,6 +20,15 @@ pub enum Current {
 // The snapshot of calls that are given none: this bound, and an empty active list.
 pub const PLAIN_XMAX: u64 = 18446744073709551615;
 
+pub fn creator_of(cur: Current) -> u64
+    ensures { λ r. ⌜ r ≡ creatorOf cur ⌝ }
+{
+    match cur {
+        Current::Tx(t) => t,
+        Current::Nobody => 0,
+    }
+}
+
 fn is_current(cur: Current, tx: u64) -> bool
     ensures { λ r. ⌜ r ≡ isCurrent cur tx ⌝ }
 {
@@ -29,9 +39,9 @@ fn is_current(cur: Current, tx: u64) -> bool
 }
 
 // With the state already looked up, so that a creator's is looked up once.
-fn finished_with(state: u8, active: &[u64], xmax: u64, tx: u64) -> bool
+fn finished_with(xmax: u64, active: &[u64], state: u8, tx: u64) -> bool
     requires { ⌜ rising (now active) ≡ true ⌝ }
-    ensures { λ r. ⌜ r ≡ finishedWith state (now (active .entry)) xmax tx ⌝ }
+    ensures { λ r. ⌜ r ≡ finishedWith xmax (now (active .entry)) state tx ⌝ }
 {
     if tx == 0 {
         return true;
@@ -51,14 +61,6 @@ fn finished_with(state: u8, active: &[u64], xmax: u64, tx: u64) -> bool
     true
 }
 
-pub fn finished_before(ids: &[u64], states: &[u8], active: &[u64], xmax: u64, tx: u64) -> bool
-    requires { ⌜ Judged (now ids) (now states) × (rising (now active) ≡ true) ⌝ }
-    ensures { λ r. ⌜ r ≡ finishedBefore (lookup (now (ids .entry)) (now (states .entry))) (now (active .entry)) xmax tx ⌝ }
-{
-    let state = lists::status_of(ids, states, tx);
-    finished_with(state, active, xmax, tx)
-}
-
 fn own_stamp(cur: Current, stamp: Stamp) -> bool
     ensures { λ r. ⌜ r ≡ ofDeleter (isCurrent cur) stamp ⌝ }
 {
@@ -70,8 +72,8 @@ fn own_stamp(cur: Current, stamp: Stamp) -> bool
 
 // The state of tx, given that of the creator: where they are one transaction, it is not looked up again.
 fn state_beside(ids: &[u64], states: &[u8], creator: u64, state: u8, tx: u64) -> u8
-    requires { ⌜ Judged (now ids) (now states) × (state ≡ lookup (now ids) (now states) creator) ⌝ }
-    ensures { λ r. ⌜ r ≡ lookup (now (ids .entry)) (now (states .entry)) tx ⌝ }
+    requires { ⌜ StatusesJudged (statuses (now ids) (now states)) × (state ≡ lookup (statuses (now ids) (now states)) creator) ⌝ }
+    ensures { λ r. ⌜ r ≡ lookup (statuses (now (ids .entry)) (now (states .entry))) tx ⌝ }
 {
     if tx == creator {
         return state;
@@ -80,17 +82,17 @@ fn state_beside(ids: &[u64], states: &[u8], creator: u64, state: u8, tx: u64) ->
 }
 
 fn hides(
+    xmax: u64,
+    active: &[u64],
+    cur: Current,
     ids: &[u64],
     states: &[u8],
-    active: &[u64],
-    xmax: u64,
-    cur: Current,
     creator: u64,
     state: u8,
     stamp: Stamp,
 ) -> bool
-    requires { ⌜ Judged (now ids) (now states) × (rising (now active) ≡ true) × (state ≡ lookup (now ids) (now states) creator) ⌝ }
-    ensures { λ r. ⌜ r ≡ ofDeleter (hiding (lookup (now (ids .entry)) (now (states .entry))) (now (active .entry)) xmax cur) stamp ⌝ }
+    requires { ⌜ StatusesJudged (statuses (now ids) (now states)) × (rising (now active) ≡ true) × (state ≡ lookup (statuses (now ids) (now states)) creator) ⌝ }
+    ensures { λ r. ⌜ r ≡ ofDeleter (hiding (snapshot xmax (now (active .entry)) cur) (lookup (statuses (now (ids .entry)) (now (states .entry))))) stamp ⌝ }
 {
     match stamp {
         Stamp::By(d) => {
@@ -98,23 +100,23 @@ fn hides(
                 return true;
             }
             let other = state_beside(ids, states, creator, state, d);
-            finished_with(other, active, xmax, d)
+            finished_with(xmax, active, other, d)
         }
         Stamp::Absent => false,
     }
 }
 
 pub fn is_visible(
+    xmax: u64,
+    active: &[u64],
+    cur: Current,
     ids: &[u64],
     states: &[u8],
-    active: &[u64],
-    xmax: u64,
-    cur: Current,
     creator: u64,
     stamp: Stamp,
 ) -> bool
-    requires { ⌜ Judged (now ids) (now states) × (rising (now active) ≡ true) ⌝ }
-    ensures { λ r. ⌜ r ≡ visible (lookup (now (ids .entry)) (now (states .entry))) (now (active .entry)) xmax cur creator stamp ⌝ }
+    requires { ⌜ StatusesJudged (statuses (now ids) (now states)) × (rising (now active) ≡ true) ⌝ }
+    ensures { λ r. ⌜ r ≡ visible (snapshot xmax (now (active .entry)) cur) (lookup (statuses (now (ids .entry)) (now (states .entry)))) creator stamp ⌝ }
 {
     let state = lists::status_of(ids, states, creator);
     if state == 3 {
@@ -124,16 +126,16 @@ pub fn is_visible(
         let own = own_stamp(cur, stamp);
         return !own;
     }
-    if finished_with(state, active, xmax, creator) {
-        let hidden = hides(ids, states, active, xmax, cur, creator, state, stamp);
+    if finished_with(xmax, active, state, creator) {
+        let hidden = hides(xmax, active, cur, ids, states, creator, state, stamp);
         return !hidden;
     }
     false
 }
 
-pub fn changed_after_snapshot(active: &[u64], xmax: u64, tx: u64) -> bool
+pub fn changed_after_snapshot(xmax: u64, active: &[u64], tx: u64) -> bool
     requires { ⌜ rising (now active) ≡ true ⌝ }
-    ensures { λ r. ⌜ r ≡ changedAfter (now (active .entry)) xmax tx ⌝ }
+    ensures { λ r. ⌜ r ≡ changedAfter (snapshot xmax (now (active .entry)) Current.Nobody) tx ⌝ }
 {
     if xmax <= tx {
         return true;
@@ -141,50 +143,50 @@ pub fn changed_after_snapshot(active: &[u64], xmax: u64, tx: u64) -> bool
     lists::in_active(active, tx)
 }
 
-fn intrudes(active: &[u64], xmax: u64, cur: Current, tx: u64) -> bool
+fn intrudes(xmax: u64, active: &[u64], cur: Current, tx: u64) -> bool
     requires { ⌜ rising (now active) ≡ true ⌝ }
-    ensures { λ r. ⌜ r ≡ intruding (now (active .entry)) xmax cur tx ⌝ }
+    ensures { λ r. ⌜ r ≡ intruding (snapshot xmax (now (active .entry)) cur) tx ⌝ }
 {
     if is_current(cur, tx) {
         return false;
     }
-    changed_after_snapshot(active, xmax, tx)
+    changed_after_snapshot(xmax, active, tx)
 }
 
 // One version of the key, against the creator number that the caller has seen.
 pub fn version_conflicts(
-    active: &[u64],
     xmax: u64,
+    active: &[u64],
     cur: Current,
     seen: u64,
     creator: u64,
     stamp: Stamp,
 ) -> bool
     requires { ⌜ rising (now active) ≡ true ⌝ }
-    ensures { λ r. ⌜ r ≡ conflicting (now (active .entry)) xmax cur seen creator stamp ⌝ }
+    ensures { λ r. ⌜ r ≡ conflicting (snapshot xmax (now (active .entry)) cur) seen creator stamp ⌝ }
 {
     if creator != seen {
-        return intrudes(active, xmax, cur, creator);
+        return intrudes(xmax, active, cur, creator);
     }
     match stamp {
-        Stamp::By(d) => intrudes(active, xmax, cur, d),
+        Stamp::By(d) => intrudes(xmax, active, cur, d),
         Stamp::Absent => false,
     }
 }
 
 // Claim's own test, which may come to ask the status list.
 pub fn claim_conflicts(
+    xmax: u64,
+    active: &[u64],
+    cur: Current,
     ids: &[u64],
     states: &[u8],
-    active: &[u64],
-    xmax: u64,
-    cur: Current,
     seen: u64,
     creator: u64,
     stamp: Stamp,
 ) -> bool
-    requires { ⌜ Judged (now ids) (now states) × (rising (now active) ≡ true) ⌝ }
-    ensures { λ r. ⌜ r ≡ claimConflicting (lookup (now (ids .entry)) (now (states .entry))) (now (active .entry)) xmax cur seen creator stamp ⌝ }
+    requires { ⌜ StatusesJudged (statuses (now ids) (now states)) × (rising (now active) ≡ true) ⌝ }
+    ensures { λ r. ⌜ r ≡ claimConflicting (snapshot xmax (now (active .entry)) cur) (lookup (statuses (now (ids .entry)) (now (states .entry)))) seen creator stamp ⌝ }
 {
-    version_conflicts(active, xmax, cur, seen, creator, stamp)
+    version_conflicts(xmax, active, cur, seen, creator, stamp)
 }

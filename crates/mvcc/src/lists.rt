@@ -2,7 +2,15 @@
 // A status list is two slices, of transactions and of their states.
 ghost use mathlib.Core.Path.{_≡_};
 ghost use mathlib.Core.Bool.{true};
-ghost use Rattle.mvcc.specs.Lists.{rising, areStates, goodActive, goodStatuses, mem, lookup, below, Judged};
+ghost use Rattle.mvcc.specs.Lists.{rising, areStates, goodActive, mem};
+ghost use Rattle.mvcc.specs.Steps.Lists.{below};
+ghost use Rattle.mvcc.specs.Snapshot.{goodStatuses, lookup, statuses};
+ghost use Rattle.mvcc.specs.Steps.Snapshot.{StatusesJudged};
+
+// An active list and a status list are at most so long.
+pub const MAX_ACTIVE: usize = 4096;
+
+pub const MAX_STATUSES: usize = 65536;
 
 fn rises(a: &[u64]) -> bool
     ensures { λ r. ⌜ r ≡ rising (now (a .entry)) ⌝ }
@@ -42,16 +50,16 @@ fn are_states(s: &[u8]) -> bool
 pub fn good_active(active: &[u64]) -> bool
     ensures { λ r. ⌜ r ≡ goodActive (now (active .entry)) ⌝ }
 {
-    if 4096 < active.len() {
+    if MAX_ACTIVE < active.len() {
         return false;
     }
     rises(active)
 }
 
 pub fn good_statuses(ids: &[u64], states: &[u8]) -> bool
-    ensures { λ r. ⌜ r ≡ goodStatuses (now (ids .entry)) (now (states .entry)) ⌝ }
+    ensures { λ r. ⌜ r ≡ goodStatuses (statuses (now (ids .entry)) (now (states .entry))) ⌝ }
 {
-    if 65536 < ids.len() {
+    if MAX_STATUSES < ids.len() {
         return false;
     }
     if ids.len() != states.len() {
@@ -93,8 +101,8 @@ pub fn in_active(active: &[u64], tx: u64) -> bool
 }
 
 pub fn status_of(ids: &[u64], states: &[u8], tx: u64) -> u8
-    requires { ⌜ Judged (now ids) (now states) ⌝ }
-    ensures { λ r. ⌜ r ≡ lookup (now (ids .entry)) (now (states .entry)) tx ⌝ }
+    requires { ⌜ StatusesJudged (statuses (now ids) (now states)) ⌝ }
+    ensures { λ r. ⌜ r ≡ lookup (statuses (now (ids .entry)) (now (states .entry))) tx ⌝ }
 {
     let i = place(ids, tx);
     if i < ids.len() {

@@ -1,7 +1,9 @@
 // What vacuum does to one version (document 01, section 5; vacuum.rs).
 ghost use mathlib.Core.Path.{_≡_};
-ghost use Rattle.mvcc.specs.Lists.{lookup, Judged};
-ghost use Rattle.mvcc.specs.Vacuum.{stampedFate, fate};
+ghost use Rattle.mvcc.specs.Snapshot.{lookup, statuses};
+ghost use Rattle.mvcc.specs.Steps.Snapshot.{StatusesJudged};
+ghost use Rattle.mvcc.specs.Steps.Vacuum.{stampedFate};
+ghost use Rattle.mvcc.specs.Vacuum.{fate};
 use crate::lists::status_of;
 use row::Stamp;
 
@@ -29,8 +31,8 @@ fn stamped_fate(bound: u64, d: u64, state: u8) -> Fate
 }
 
 pub fn fate_of(ids: &[u64], states: &[u8], bound: u64, creator: u64, stamp: Stamp) -> Fate
-    requires { ⌜ Judged (now ids) (now states) ⌝ }
-    ensures { λ r. ⌜ r ≡ fate (lookup (now (ids .entry)) (now (states .entry))) bound creator stamp ⌝ }
+    requires { ⌜ StatusesJudged (statuses (now ids) (now states)) ⌝ }
+    ensures { λ r. ⌜ r ≡ fate (lookup (statuses (now (ids .entry)) (now (states .entry)))) bound creator stamp ⌝ }
 {
     if status_of(ids, states, creator) == 3 {
         return Fate::Dropped;

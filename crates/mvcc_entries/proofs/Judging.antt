@@ -13,10 +13,12 @@ use lib.Seq.{drop-cons}
 use lib.Dec.{ltb, leb, eqb}
 use borrow.Author.Tests.{ne-eqb}
 use Rattle.store.specs.Pick.{pick}
-use Rattle.mvcc.specs.Lists.{rising, risingFrom, areStates, goodStatuses}
-use Rattle.mvcc.proofs.Laws.{statuses-long, statuses-both}
+use Rattle.mvcc.specs.Lists.{rising, risingFrom, areStates}
+use Rattle.mvcc.specs.Snapshot.{goodStatuses, statuses}
 use Rattle.mvcc_entries.specs.declared.Entry.{Entry}
-use Rattle.mvcc_entries.specs.Entries.{none, txs, sts}
+use Rattle.mvcc_entries.specs.Steps.Entries.{none}
+use Rattle.mvcc_entries.specs.Entries.{txs, sts}
+use Rattle.mvcc.proofs.Laws.{statuses-long, statuses-both}
 use Rattle.mvcc_entries.proofs.Laws.{length-txs, txs-at, length-sts, sts-at}
 
 -- l rises, and after the first of the list the entry before it is below it
@@ -32,7 +34,7 @@ pub record Judging (es : List Entry) : Type 0 where
   pub prev : ℕ
   pub i : ℕ
   pub within : i ≤ length es
-  pub left : goodStatuses (txs es) (sts es) ≡ (ok && (after i prev (drop i (txs es)) && areStates (drop i (sts es))))
+  pub left : goodStatuses (statuses (txs es) (sts es)) ≡ (ok && (after i prev (drop i (txs es)) && areStates (drop i (sts es))))
 
 module _ {es : List Entry} where
   abbrev pub Nearer : Judging es → Judging es → Type 0
@@ -42,10 +44,10 @@ module _ {es : List Entry} where
   Nearer-wf = InvImage·wf (λ (s : Judging es). length es - s .i) (Nat·lt-wfRel .wf)
 
 module _ (es : List Entry) where
-  pub judged-long : 65536 < length es → false ≡ goodStatuses (txs es) (sts es)
+  pub judged-long : 65536 < length es → false ≡ goodStatuses (statuses (txs es) (sts es))
   judged-long h = statuses-long (txs es) (sts es) (omega (arith, length-txs es))
 
-  pub judged-all : length es ≤ 65536 → goodStatuses (txs es) (sts es) ≡ (after 0 0 (txs es) && areStates (sts es))
+  pub judged-all : length es ≤ 65536 → goodStatuses (statuses (txs es) (sts es)) ≡ (after 0 0 (txs es) && areStates (sts es))
   unfolding after
   judged-all h = statuses-both (txs es) (sts es) (omega (arith, length-txs es)) (omega (arith, length-txs es, length-sts es))
 
@@ -98,7 +100,7 @@ module _ {es : List Entry} (s : Judging es) where
     left = s .left ∙ turn h;
   }
 
-  pub all : length es ≤ s .i → s .ok ≡ goodStatuses (txs es) (sts es)
+  pub all : length es ≤ s .i → s .ok ≡ goodStatuses (statuses (txs es) (sts es))
   unfolding after rising risingFrom areStates
   all h =
       let et : drop (s .i) (txs es) ≡ [] = drop-of-length-le (txs es) {i = s .i} (omega (arith, length-txs es)) in

@@ -10,10 +10,13 @@ use lib.Dec.{ltb, eqb}
 use borrow.Author.Tests.{eqb-true, eqb-false, ltb-false, lt-ltb, le-ltb, eq-eqb, ne-eqb}
 use Rattle.store.specs.Pick.{pick}
 use Rattle.store.specs.Part.{put}
-use Rattle.mvcc.specs.Lists.{rising, below, lookup, goodStatuses}
-use Rattle.mvcc.proofs.Laws.{lookup-at, lookup-past, lookup-other}
+use Rattle.mvcc.specs.Lists.{rising, stateAt}
+use Rattle.mvcc.specs.Steps.Lists.{below}
+use Rattle.mvcc.specs.Snapshot.{lookup, goodStatuses, statuses}
 use Rattle.mvcc_entries.specs.declared.Entry.{Entry}
-use Rattle.mvcc_entries.specs.Entries.{none, txs, sts, statusCall, roomCode, unpackCode, written, Unpacked}
+use Rattle.mvcc_entries.specs.Steps.Entries.{none}
+use Rattle.mvcc_entries.specs.Entries.{txs, sts, statusCall, roomCode, unpackCode, unpackedTo, Unpacked}
+use Rattle.mvcc.proofs.Laws.{lookup-at, lookup-past, lookup-other}
 
 pub length-txs : (es : List Entry) → length (txs es) ≡ length es
 unfolding txs
@@ -33,24 +36,24 @@ sts-at es i = List·getD-map (λ (e : Entry). e .state) es i none
 
 module _ (es : List Entry) (t i : ℕ) (rises : rising (txs es) ≡ true) (at : i ≡ below t (txs es)) where
   -- past the last entry: absent
-  pub past : length es ≤ i → 0 ≡ lookup (txs es) (sts es) t
+  pub past : length es ≤ i → 0 ≡ lookup (statuses (txs es) (sts es)) t
   past h = lookup-past t (txs es) i rises at (sts es) (omega (arith, length-txs es))
 
   -- at an entry: what that entry alone says
-  pub here : i < length es → lookup (getD es i none .tx ∷ []) (getD es i none .state ∷ []) t ≡ lookup (txs es) (sts es) t
-  unfolding lookup
+  pub here : i < length es → lookup (statuses (getD es i none .tx ∷ []) (getD es i none .state ∷ [])) t ≡ lookup (statuses (txs es) (sts es)) t
+  unfolding stateAt
   here h = go (eqb (getD es i none .tx) t) refl
     where
-      go : (b : Bool) → eqb (getD es i none .tx) t ≡ b → pick b (getD es i none .state) 0 ≡ lookup (txs es) (sts es) t
+      go : (b : Bool) → eqb (getD es i none .tx) t ≡ b → pick b (getD es i none .state) 0 ≡ lookup (statuses (txs es) (sts es)) t
       go true e = sym (lookup-at t (txs es) (sts es) i rises (omega (arith, length-txs es)) (omega (arith, length-sts es)) (txs-at es i ∙ eqb-true _ _ e) ∙ sts-at es i)
       go false e = lookup-other t (txs es) i rises at (sts es) (λ q. eqb-false _ _ e (sym (txs-at es i) ∙ q))
 
 -- what status_in answers
-pub status-good : (es : List Entry) (t : ℕ) → goodStatuses (txs es) (sts es) ≡ true → lookup (txs es) (sts es) t ≡ statusCall es t
+pub status-good : (es : List Entry) (t : ℕ) → goodStatuses (statuses (txs es) (sts es)) ≡ true → lookup (statuses (txs es) (sts es)) t ≡ statusCall es t
 unfolding statusCall
 status-good es t e = rw e
 
-pub status-bad : (es : List Entry) (t : ℕ) → goodStatuses (txs es) (sts es) ≡ false → 4 ≡ statusCall es t
+pub status-bad : (es : List Entry) (t : ℕ) → goodStatuses (statuses (txs es) (sts es)) ≡ false → 4 ≡ statusCall es t
 unfolding statusCall
 status-bad es t e = rw e
 
@@ -86,7 +89,7 @@ module _ (good : Bool) (k n m : ℕ) where
 
 module _ (es : List Entry) (ids states : List ℕ) (c : ℕ) (is : c ≡ unpackCode es (length ids) (length states)) where
   pub unpacked-refused : (c ≡ 0 → ⊥) → Unpacked es ids states c ids states
-  unfolding written
+  unfolding unpackedTo
   unpacked-refused n = record { code = is; ids-after = rw (← is, ne-eqb c 0 n); states-after = rw (← is, ne-eqb c 0 n) }
 
   module _ (done : c ≡ 0) where
@@ -95,10 +98,10 @@ module _ (es : List Entry) (ids states : List ℕ) (c : ℕ) (is : c ≡ unpackC
     unpacked-fits = code-fits _ _ _ _ (sym is ∙ done)
 
     pub unpacked-done : (zs ws : List ℕ) → zs ≡ put 0 (txs es) ids → ws ≡ put 0 (sts es) states → Unpacked es ids states 0 zs ws
-    unfolding written
+    unfolding unpackedTo
     unpacked-done zs ws p q = record { code = sym done ∙ is; ids-after = rw (← is, eq-eqb c 0 done) p; states-after = rw (← is, eq-eqb c 0 done) q }
 
 -- the code that room_code answers is unpack's, once the list is judged
-pub unpack-code : (es : List Entry) (n m : ℕ) (good : Bool) (c : ℕ) → good ≡ goodStatuses (txs es) (sts es) → c ≡ roomCode good (length es) n m → c ≡ unpackCode es n m
+pub unpack-code : (es : List Entry) (n m : ℕ) (good : Bool) (c : ℕ) → good ≡ goodStatuses (statuses (txs es) (sts es)) → c ≡ roomCode good (length es) n m → c ≡ unpackCode es n m
 unfolding unpackCode
 unpack-code es n m good c g e = rw (← g) e

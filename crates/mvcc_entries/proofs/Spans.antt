@@ -8,10 +8,12 @@ use Prim.Native.Nat.{ℕ, _+_, _-_, _/_, _≤_, _<_, zero-le}
 use native.Mathlib.Omega.{arith}
 use lib.WfN.{Nat·lt-wfRel}
 use lib.ListN.{length, getD}
-use Rattle.mvcc.specs.Lists.{rising, below}
-use Rattle.mvcc.proofs.Laws.{below-le, below-gt, below-length}
+use Rattle.mvcc.specs.Lists.{rising}
+use Rattle.mvcc.specs.Steps.Lists.{below}
 use Rattle.mvcc_entries.specs.declared.Entry.{Entry}
-use Rattle.mvcc_entries.specs.Entries.{none, txs}
+use Rattle.mvcc_entries.specs.Steps.Entries.{none}
+use Rattle.mvcc_entries.specs.Entries.{txs}
+use Rattle.mvcc.proofs.Laws.{below-le, below-gt, below-length}
 use Rattle.mvcc_entries.proofs.Laws.{length-txs, txs-at}
 
 pub record Span (x : ℕ) (es : List Entry) : Type 0 where

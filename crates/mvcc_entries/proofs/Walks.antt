@@ -25,7 +25,7 @@ use denote.Steps.{nothing}
 use denote.Triple.Statement.{Contract}
 use denote.Triple.Spec.{tripleOf}
 use denote.Triple.Clauses.{ensured, lasts}
-use Rattle.mvcc.specs.Lists.{goodStatuses}
+use Rattle.mvcc.specs.Snapshot.{goodStatuses, statuses}
 use Rattle.mvcc_entries.specs.declared.Entry.{Entry}
 use Rattle.mvcc_entries.specs.Entries.{txs, sts}
 use Rattle.mvcc_entries.proofs.Entry as T
@@ -96,5 +96,5 @@ module _ {M : Type 1} (𝓤 : URA M) (H : Heap 𝓤) (A : Atoms 𝓤) (mem : Mem
         nothing ! $ move ! (1 ∷ 0 ∷ []) $ fjoin ! $ move ! (2 ∷ 0 ∷ []) $
         use2 W (raw (Good .pre to-good)) (qed W (Tok ∷ ‵ (owns (ShrSlice (named 0) κ T.the-row ∷ []) (s, tt) (held, tt)) ∷ []) ∵ join ! $ frame ! $ done !) $ frame ! $ done !
 
-    pub good-said : (r : Bool) → ent 𝓤 (ensured 𝓤 H A good.ended (good.clauses 𝓤 H A mem run) (κ, tt) (s, tt) tt r) (fact 𝓤 (r ≡ goodStatuses (txs (now s)) (sts (now s))))
-    good-said r = exE 𝓤 _ (λ ws. snd∗ 𝓤 (sem 𝓤 H A (lasts good.ended (κ, tt) (s, tt) ws)) (fact 𝓤 (r ≡ goodStatuses (txs (now s)) (sts (now s)))))
+    pub good-said : (r : Bool) → ent 𝓤 (ensured 𝓤 H A good.ended (good.clauses 𝓤 H A mem run) (κ, tt) (s, tt) tt r) (fact 𝓤 (r ≡ goodStatuses (statuses (txs (now s)) (sts (now s)))))
+    good-said r = exE 𝓤 _ (λ ws. snd∗ 𝓤 (sem 𝓤 H A (lasts good.ended (κ, tt) (s, tt) ws)) (fact 𝓤 (r ≡ goodStatuses (statuses (txs (now s)) (sts (now s))))))

@@ -8,12 +8,9 @@ use lib.ListN.{length}
 use lib.Dec.{ltb, eqb}
 use Rattle.store.specs.Pick.{pick}
 use Rattle.store.specs.Part.{put}
-use Rattle.mvcc.specs.Lists.{lookup, goodStatuses}
+use Rattle.mvcc.specs.Snapshot.{lookup, goodStatuses, statuses}
 use Rattle.mvcc_entries.specs.declared.Entry.{Entry}
-
--- what is read past the end
-abbrev pub none : Entry
-none = record { tx = 0; state = 0 }
+use Rattle.call_answers.specs.Names.{Short, BadStatuses, unless}
 
 -- the transactions of a run of entries, and their states
 unfoldable pub txs : List Entry → List ℕ
@@ -24,22 +21,22 @@ sts es = map (λ (e : Entry). e .state) es
 
 -- section 6: 4 is BadStatuses. A state is 0 (absent) to 3, so the two do not meet.
 unfoldable pub statusCall : List Entry → ℕ → ℕ
-statusCall es tx = pick (goodStatuses (txs es) (sts es)) (lookup (txs es) (sts es) tx) 4
+statusCall es tx = pick (goodStatuses (statuses (txs es) (sts es))) (lookup (statuses (txs es) (sts es)) tx) BadStatuses
 
 -- section 6: 4 is BadStatuses, 12 is Short, in that order, and 0 is Done; of a list of k entries, good or not, and room
 -- for n and m numbers
 unfoldable pub roomCode : (good : Bool) → (k n m : ℕ) → ℕ
-roomCode good k n m = pick good (pick (ltb n k) 12 (pick (ltb m k) 12 0)) 4
+roomCode good k n m = unless good BadStatuses (pick (ltb n k) Short (pick (ltb m k) Short 0))
 
 unfoldable pub unpackCode : List Entry → (n m : ℕ) → ℕ
-unpackCode es n m = roomCode (goodStatuses (txs es) (sts es)) (length es) n m
+unpackCode es n m = roomCode (goodStatuses (statuses (txs es) (sts es))) (length es) n m
 
 -- section 6: "A refusal carries its number only; buffers and state stay"; else x stands from the start of s on
-unfoldable pub written : (code : ℕ) → (x s : List ℕ) → List ℕ
-written code x s = pick (eqb code 0) (put 0 x s) s
+unfoldable pub unpackedTo : (code : ℕ) → (x s : List ℕ) → List ℕ
+unpackedTo code x s = pick (eqb code 0) (put 0 x s) s
 
 -- what unpack answers, and what the two slices hold afterwards
 pub record Unpacked (es : List Entry) (ids states : List ℕ) (r : ℕ) (ids′ states′ : List ℕ) : Type 0 where
   pub code : r ≡ unpackCode es (length ids) (length states)
-  pub ids-after : ids′ ≡ written (unpackCode es (length ids) (length states)) (txs es) ids
-  pub states-after : states′ ≡ written (unpackCode es (length ids) (length states)) (sts es) states
+  pub ids-after : ids′ ≡ unpackedTo (unpackCode es (length ids) (length states)) (txs es) ids
+  pub states-after : states′ ≡ unpackedTo (unpackCode es (length ids) (length states)) (sts es) states

@@ -1,2 +1,3 @@
 -- What a reader of the contracts of `mvcc_entries` has to believe.
 pub mod Entries
+pub mod Steps

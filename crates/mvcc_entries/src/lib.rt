@@ -6,8 +6,11 @@ ghost use mathlib.Core.List.{[], _∷_};
 ghost use Prim.Native.Nat.{_<_, _≤_};
 ghost use lib.ListN.{length, getD};
 ghost use Rattle.store.specs.Part.{put};
-ghost use Rattle.mvcc.specs.Lists.{rising, below, lookup, goodStatuses};
-ghost use Rattle.mvcc_entries.specs.Entries.{none, txs, sts, statusCall, roomCode, Unpacked};
+ghost use Rattle.mvcc.specs.Lists.{rising};
+ghost use Rattle.mvcc.specs.Steps.Lists.{below};
+ghost use Rattle.mvcc.specs.Snapshot.{lookup, goodStatuses, statuses};
+ghost use Rattle.mvcc_entries.specs.Steps.Entries.{none};
+ghost use Rattle.mvcc_entries.specs.Entries.{txs, sts, statusCall, roomCode, Unpacked};
 
 #[repr(C)]
 pub struct Entry {
@@ -43,7 +46,7 @@ fn seek(es: &[Entry], tx: u64) -> usize
 
 // What one entry says of tx: mvcc's lookup, on two number slices of one element each.
 fn settled(e: Entry, tx: u64) -> u8
-    ensures { λ r. ⌜ r ≡ lookup (e .tx ∷ []) (e .state ∷ []) tx ⌝ }
+    ensures { λ r. ⌜ r ≡ lookup (statuses (e .tx ∷ []) (e .state ∷ [])) tx ⌝ }
 {
     let ids = [e.tx];
     let states = [e.state];
@@ -53,7 +56,7 @@ fn settled(e: Entry, tx: u64) -> u8
 // The state of tx in a list that rises: 0 where it is absent.
 fn state_of(es: &[Entry], tx: u64) -> u8
     requires { ⌜ rising (txs (now es)) ≡ true ⌝ }
-    ensures { λ r. ⌜ r ≡ lookup (txs (now (es .entry))) (sts (now (es .entry))) tx ⌝ }
+    ensures { λ r. ⌜ r ≡ lookup (statuses (txs (now (es .entry))) (sts (now (es .entry)))) tx ⌝ }
 {
     let i = seek(es, tx);
     if i < es.len() {
@@ -64,9 +67,9 @@ fn state_of(es: &[Entry], tx: u64) -> u8
 
 // A flag and no way out of the loop: one pass judges order and states.
 fn entries_are_good(es: &[Entry]) -> bool
-    ensures { λ r. ⌜ r ≡ goodStatuses (txs (now (es .entry))) (sts (now (es .entry))) ⌝ }
+    ensures { λ r. ⌜ r ≡ goodStatuses (statuses (txs (now (es .entry))) (sts (now (es .entry)))) ⌝ }
 {
-    if 65536 < es.len() {
+    if mvcc::lists::MAX_STATUSES < es.len() {
         return false;
     }
     let mut ok = true;
@@ -91,7 +94,7 @@ pub extern "C" fn status_in(es: &[Entry], tx: u64) -> u8
     if entries_are_good(es) {
         return state_of(es, tx);
     }
-    4
+    call_answers::BAD_STATUSES
 }
 
 // The transactions, written from the start of a number slice.
@@ -124,14 +127,14 @@ fn room_code(good: bool, k: usize, n: usize, m: usize) -> u8
 {
     if good {
         if n < k {
-            return 12;
+            return call_answers::SHORT;
         }
         if m < k {
-            return 12;
+            return call_answers::SHORT;
         }
         return 0;
     }
-    4
+    call_answers::BAD_STATUSES
 }
 
 // A good list, as the two number slices that mvcc's functions take: 0; or 4, BadStatuses, or 12, Short, and nothing is

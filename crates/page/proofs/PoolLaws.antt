@@ -9,11 +9,11 @@ use borrow.Author.Tests.{eq-eqb, ne-eqb, le-leb, lt-leb, leb-true}
 use lib.Dec.{leb, eqb}
 use lib.ListN.{length, length-replicate}
 use Rattle.store.specs.Part.{put, zeros}
-use Rattle.store.proofs.PutLaws.{put-splice}
 use Rattle.page.specs.Page.{setPage}
 use Rattle.page.specs.Pool.{goodPool, allocated, withFresh, nextPage}
 use Rattle.page.specs.declared.pool.State.{State}
 use Rattle.page.specs.declared.pool.Allocated.{Allocated}
+use Rattle.store.proofs.PutLaws.{put-splice}
 
 module _ (s : List ℕ) (st : State) where
   pub pool-ragged : (length s % 4096 ≡ 0 → ⊥) → false ≡ goodPool s st

@@ -4,6 +4,19 @@ use mathlib.Core.List.{List}
 use Prim.Native.Nat.{ℕ}
 use Rattle.store.specs.Le.{leAt, putAt}
 
+abbrev pub headerSize : ℕ
+headerSize = 12
+
+-- "cells over 4084 bytes" overfill a leaf: bytes 12 to 4095
+abbrev pub leafRoom : ℕ
+leafRoom = 4084
+
+abbrev pub nodeInternal : ℕ
+nodeInternal = 0
+
+abbrev pub nodeLeaf : ℕ
+nodeLeaf = 1
+
 abbrev pub nodeType : List ℕ → ℕ
 nodeType pg = leAt 1 pg 0
 

@@ -10,10 +10,13 @@ use Rattle.page.specs.Page.{setPage}
 use Rattle.page.specs.declared.pool.State.{State}
 use Rattle.page.specs.declared.pool.Allocated.{Allocated}
 
+abbrev pub maxPages : ℕ
+maxPages = 65536
+
 -- "length not 1 to 65,536 whole pages, or pages in use above that" is BadPool; this is the rest
 unfoldable pub goodPool : List ℕ → State → Bool
 goodPool s st =
-    eqb (length s % 4096) 0 && (leb 1 (length s / 4096) && (leb (length s / 4096) 65536 && leb (st .used) (length s / 4096)))
+    eqb (length s % 4096) 0 && (leb 1 (length s / 4096) && (leb (length s / 4096) maxPages && leb (st .used) (length s / 4096)))
 
 -- the page that is handed out next
 unfoldable pub nextPage : List ℕ → State → ℕ

@@ -7,6 +7,9 @@ ghost use Rattle.page.specs.Page.{page};
 ghost use Rattle.page.specs.Pool.{goodPool, allocated, withFresh};
 use crate::PAGE_SIZE;
 
+// A pool has at most so many pages.
+pub const MAX_PAGES: usize = 65536;
+
 // The numbers of a tree that are not in its pages.
 pub struct State {
     pub root: u32,
@@ -28,7 +31,7 @@ pub fn pool_is_good(pool: &[u8], st: State) -> bool
     if n < 1 {
         return false;
     }
-    if 65536 < n {
+    if MAX_PAGES < n {
         return false;
     }
     st.used as usize <= n

@@ -9,23 +9,23 @@ use lib.ListN.{length, set, length-append}
 use lib.Seq.{set-split}
 use Rattle.store.specs.Part.{put}
 use Rattle.store.specs.Pick.{pick}
-use Rattle.store.proofs.PutLaws.{put-def, put-after-at, length-put}
 use Rattle.page.specs.declared.pool.State.{State}
 use Rattle.row.specs.declared.Stamp.{Stamp}
 use Rattle.row.specs.declared.Pointer.{Pointer}
 use Rattle.row.specs.declared.Version.{Version}
 use Rattle.mvcc.specs.declared.Current.{Current}
-use Rattle.list_records.specs.Listed.{Written, written}
-use Rattle.call_read.specs.Answer.{Outcome, ofCreated, ofFound, ofTold, ofListed}
+use Rattle.call_answers.specs.Answer.{written, Written, ofFound, Outcome, ofYesNo, ofCounted, ofStated}
 use Rattle.call_read.specs.Find.{findVisibleCall, findCall}
 use Rattle.call_read.specs.Conflict.{conflictCall}
 use Rattle.call_read.specs.Listings.{versionsOfCall}
 use Rattle.call_read.specs.Scan.{scanVisibleCall}
-use Rattle.call_read.specs.declared.Created.{Created}
-use Rattle.call_read.specs.declared.Found.{Found}
-use Rattle.call_read.specs.declared.Told.{Told}
-use Rattle.call_read.specs.declared.Listed.{Listed}
+use Rattle.call_answers.specs.declared.Stated.{Stated}
+use Rattle.call_answers.specs.declared.Found.{Found}
+use Rattle.call_answers.specs.declared.YesNo.{YesNo}
+use Rattle.call_answers.specs.declared.Counted.{Counted}
 use Rattle.port.specs.Words.{currentOf, stampWords, pointerWords, versionWords, stateWords, flagWords, countWords, Called, called, given, calledList, givenList}
+use Rattle.mvcc.specs.Snapshot.{Statuses, snapshot}
+use Rattle.store.proofs.PutLaws.{put-def, put-after-at, length-put}
 
 -- ---- stores of words
 
@@ -110,23 +110,23 @@ module _ (s : List ℕ) where
   pub found-done : {r : Found} {v : Version} {t : List ℕ} → r ≡ Found.Done v → t ≡ put 0 (versionWords v) s → called 0 t ≡ given versionWords (ofFound r) s
   found-done e q = rw (e, q)
 
-  pub told-refused : {r : Told} {n : ℕ} → r ≡ Told.Refused n → called n s ≡ given flagWords (ofTold r) s
+  pub told-refused : {r : YesNo} {n : ℕ} → r ≡ YesNo.Refused n → called n s ≡ given flagWords (ofYesNo r) s
   told-refused e = rw e
 
-  pub told-done : {r : Told} {b : Bool} (w : ℕ) → length s ≡ 8 → r ≡ Told.Done b → w ≡ pick b 1 0 → called 0 (set s 0 w) ≡ given flagWords (ofTold r) s
+  pub told-done : {r : YesNo} {b : Bool} (w : ℕ) → length s ≡ 8 → r ≡ YesNo.Done b → w ≡ pick b 1 0 → called 0 (set s 0 w) ≡ given flagWords (ofYesNo r) s
   told-done {r} {b} w h e q = rw (e, q, set-put 0 (pick b 1 0) s (omega arith))
 
-  pub created-refused : {r : Created} {n : ℕ} → r ≡ Created.Refused n → called n s ≡ given stateWords (ofCreated r) s
-  created-refused e = rw e
+  pub stated-refused : {r : Stated} {n : ℕ} → r ≡ Stated.Refused n → called n s ≡ given stateWords (ofStated r) s
+  stated-refused e = rw e
 
-  pub created-done : {r : Created} {st : State} → length s ≡ 8 → r ≡ Created.Done st → called 0 (set (set s 0 (st .root)) 1 (st .used)) ≡ given stateWords (ofCreated r) s
-  created-done {r} {st} h e = rw (e, two-words 0 1 (st .root) (st .used) s refl (omega arith))
+  pub stated-done : {r : Stated} {st : State} → length s ≡ 8 → r ≡ Stated.Done st → called 0 (set (set s 0 (st .root)) 1 (st .used)) ≡ given stateWords (ofStated r) s
+  stated-done {r} {st} h e = rw (e, two-words 0 1 (st .root) (st .used) s refl (omega arith))
 
-  pub listed-refused : {r : Listed} {n : ℕ} → r ≡ Listed.Refused n → called n s ≡ given countWords (ofListed r) s
-  listed-refused e = rw e
+  pub counted-refused : {r : Counted} {n : ℕ} → r ≡ Counted.Refused n → called n s ≡ given countWords (ofCounted r) s
+  counted-refused e = rw e
 
-  pub listed-done : {r : Listed} {n : ℕ} → length s ≡ 8 → r ≡ Listed.Done n → called 0 (set s 0 n) ≡ given countWords (ofListed r) s
-  listed-done {r} {n} h e = rw (e, set-put 0 n s (omega arith))
+  pub counted-done : {r : Counted} {n : ℕ} → length s ≡ 8 → r ≡ Counted.Done n → called 0 (set s 0 n) ≡ given countWords (ofCounted r) s
+  counted-done {r} {n} h e = rw (e, set-put 0 n s (omega arith))
 
 -- the outcome that was given is the outcome of the definition
 pub passed : {A : Type 0} (w : A → List ℕ) {o p : Outcome A} {x : Called} (old : List ℕ) → x ≡ given w o old → o ≡ p → x ≡ given w p old
@@ -140,19 +140,19 @@ passed-list {o} {w} {n} {t} {out} old e q = ap (λ (x : Called). calledList (x .
 -- ---- a call asked with an equal key and an equal current transaction
 
 module _ (s : List ℕ) (st : State) {k l : ℕ} {x y : Current} (key : k ≡ l) (cur : x ≡ y) where
-  pub visible-asked : (xmax : ℕ) (active ids states : List ℕ) → findVisibleCall s st k xmax active x ids states ≡ findVisibleCall s st l xmax active y ids states
-  visible-asked xmax active ids states = rw (key, cur)
+  pub visible-asked : (xmax : ℕ) (active : List ℕ) (ss : Statuses) → findVisibleCall s st k (snapshot xmax active x) ss ≡ findVisibleCall s st l (snapshot xmax active y) ss
+  visible-asked xmax active ss = rw (key, cur)
 
-  pub find-asked : (ids states : List ℕ) → findCall s st k x ids states ≡ findCall s st l y ids states
-  find-asked ids states = rw (key, cur)
+  pub find-asked : (ss : Statuses) → findCall s st k x ss ≡ findCall s st l y ss
+  find-asked ss = rw (key, cur)
 
-  pub conflict-asked : (seen xmax : ℕ) (active : List ℕ) → conflictCall s st k seen xmax active x ≡ conflictCall s st l seen xmax active y
+  pub conflict-asked : (seen xmax : ℕ) (active : List ℕ) → conflictCall s st k (snapshot xmax active x) seen ≡ conflictCall s st l (snapshot xmax active y) seen
   conflict-asked seen xmax active = rw (key, cur)
 
 module _ (s : List ℕ) (st : State) (out : List ℕ) where
   pub versions-asked : {k l : ℕ} → k ≡ l → versionsOfCall s st k out ≡ versionsOfCall s st l out
   versions-asked key = rw key
 
-  pub scan-asked : {x y : Current} (xmax : ℕ) (active ids states : List ℕ) → x ≡ y
-      → scanVisibleCall s st xmax active x ids states out ≡ scanVisibleCall s st xmax active y ids states out
-  scan-asked xmax active ids states cur = rw cur
+  pub scan-asked : {x y : Current} (xmax : ℕ) (active : List ℕ) (ss : Statuses) → x ≡ y
+      → scanVisibleCall s st (snapshot xmax active x) ss out ≡ scanVisibleCall s st (snapshot xmax active y) ss out
+  scan-asked xmax active ss cur = rw cur

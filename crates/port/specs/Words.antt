@@ -10,8 +10,7 @@ use Rattle.row.specs.declared.Stamp.{Stamp}
 use Rattle.row.specs.declared.Pointer.{Pointer}
 use Rattle.row.specs.declared.Version.{Version}
 use Rattle.mvcc.specs.declared.Current.{Current}
-use Rattle.list_records.specs.Listed.{Written}
-use Rattle.call_read.specs.Answer.{Outcome, Value, value, nothing, Ended}
+use Rattle.call_answers.specs.Answer.{Written, Ended, Outcome, nothing, value, Value}
 
 -- a state goes in as two numbers, a current transaction as a flag and a number
 abbrev pub stateOf : (root used : ℕ) → State

@@ -3,17 +3,16 @@
 ghost use mathlib.Core.Path.{_≡_};
 ghost use lib.ListN.{length};
 ghost use Rattle.page.specs.Key.{rankOf};
-ghost use Rattle.call_insert.specs.Answer.{ofStated};
 ghost use Rattle.call_insert.specs.Insert.{insertCall, insertVersionCall};
 ghost use Rattle.call_stamp.specs.Mark.{markCall, markPlainCall, deleteCall};
 ghost use Rattle.call_stamp.specs.Claim.{claimCall};
-ghost use Rattle.call_clean.specs.Answer.{ofDropped};
 ghost use Rattle.call_clean.specs.Remove.{removeCall};
 ghost use Rattle.call_clean.specs.Vacuum.{vacuumCall};
-ghost use Rattle.port.specs.Words.{stateOf, currentOf, stampOf, pointerOf, stateWords, countWords, called, given, calledPool, givenPool};
+ghost use Rattle.port.specs.Words.{stateOf, currentOf, stampOf, pointerOf, stateWords, countWords, calledPool, givenPool};
+ghost use Rattle.mvcc.specs.Snapshot.{snapshot, statuses};
 use crate::current_of;
-use call_clean::Dropped;
-use call_insert::Stated;
+use call_answers::Counted;
+use call_answers::Stated;
 use page::pool::State;
 use row::Pointer;
 use row::Stamp;
@@ -36,53 +35,26 @@ fn pointer_of(has: bool, page: u32, slot: u16) -> Pointer
     Pointer::Absent
 }
 
-fn give_stated(answer: &mut [u64], r: Stated) -> u8
-    requires { ⌜ length (now answer) ≡ 8 ⌝ }
-    ensures { λ n. ⌜ called n (now (answer .exit)) ≡ given stateWords (ofStated r) (now (answer .entry)) ⌝ }
-{
-    match r {
-        Stated::Refused(n) => n,
-        Stated::Done(st) => {
-            answer[0] = st.root as u64;
-            answer[1] = st.used as u64;
-            0
-        }
-    }
-}
-
-fn give_dropped(answer: &mut [u64], r: Dropped) -> u8
-    requires { ⌜ length (now answer) ≡ 8 ⌝ }
-    ensures { λ n. ⌜ called n (now (answer .exit)) ≡ given countWords (ofDropped r) (now (answer .entry)) ⌝ }
-{
-    match r {
-        Dropped::Refused(n) => n,
-        Dropped::Done(count) => {
-            answer[0] = count as u64;
-            0
-        }
-    }
-}
-
 #[no_mangle]
 pub extern "C" fn erbulonge_insert(
     pool: &mut [u8],
     root: u32,
     used: u32,
     key: i32,
-    body: &[u8],
     has_current: bool,
     current: u64,
     ids: &[u64],
     states: &[u8],
+    body: &[u8],
     answer: &mut [u64; 8],
 ) -> u8
-    ensures { λ n. ⌜ calledPool n (now (answer .exit)) (now (pool .exit)) ≡ givenPool stateWords (insertCall (now (pool .entry)) (stateOf root used) (rankOf key) (now (body .entry)) (currentOf «has_current» current) (now (ids .entry)) (now (states .entry))) (now (answer .entry)) ⌝ }
+    ensures { λ n. ⌜ calledPool n (now (answer .exit)) (now (pool .exit)) ≡ givenPool stateWords (insertCall (now (pool .entry)) (stateOf root used) (rankOf key) (currentOf «has_current» current) (statuses (now (ids .entry)) (now (states .entry))) (now (body .entry))) (now (answer .entry)) ⌝ }
 {
     let st = State { root, used };
     let cur = current_of(has_current, current);
-    give_stated(
+    crate::give_stated(
         answer,
-        call_insert::insert(pool, st, key, body, cur, ids, states),
+        call_insert::insert(pool, st, key, cur, ids, states, body),
     )
 }
 
@@ -106,7 +78,7 @@ pub extern "C" fn erbulonge_insert_version(
     let st = State { root, used };
     let stamp = stamp_of(has_deleter, deleter);
     let pointer = pointer_of(has_pointer, page, slot);
-    give_stated(
+    crate::give_stated(
         answer,
         call_insert::insert_version(pool, st, key, creator, stamp, pointer, body),
     )
@@ -118,22 +90,22 @@ pub extern "C" fn erbulonge_mark_deleted_visible(
     root: u32,
     used: u32,
     key: i32,
-    deleter: u64,
     xmax: u64,
     active: &[u64],
     has_current: bool,
     current: u64,
     ids: &[u64],
     states: &[u8],
+    deleter: u64,
     answer: &mut [u64; 8],
 ) -> u8
-    ensures { λ n. ⌜ calledPool n (now (answer .exit)) (now (pool .exit)) ≡ givenPool stateWords (markCall (now (pool .entry)) (stateOf root used) (rankOf key) deleter xmax (now (active .entry)) (currentOf «has_current» current) (now (ids .entry)) (now (states .entry))) (now (answer .entry)) ⌝ }
+    ensures { λ n. ⌜ calledPool n (now (answer .exit)) (now (pool .exit)) ≡ givenPool stateWords (markCall (now (pool .entry)) (stateOf root used) (rankOf key) (snapshot xmax (now (active .entry)) (currentOf «has_current» current)) (statuses (now (ids .entry)) (now (states .entry))) deleter) (now (answer .entry)) ⌝ }
 {
     let st = State { root, used };
     let cur = current_of(has_current, current);
-    give_stated(
+    crate::give_stated(
         answer,
-        call_stamp::mark_deleted_visible(pool, st, key, deleter, xmax, active, cur, ids, states),
+        call_stamp::mark_deleted_visible(pool, st, key, xmax, active, cur, ids, states, deleter),
     )
 }
 
@@ -143,20 +115,20 @@ pub extern "C" fn erbulonge_mark_deleted(
     root: u32,
     used: u32,
     key: i32,
-    deleter: u64,
     has_current: bool,
     current: u64,
     ids: &[u64],
     states: &[u8],
+    deleter: u64,
     answer: &mut [u64; 8],
 ) -> u8
-    ensures { λ n. ⌜ calledPool n (now (answer .exit)) (now (pool .exit)) ≡ givenPool stateWords (markPlainCall (now (pool .entry)) (stateOf root used) (rankOf key) deleter (currentOf «has_current» current) (now (ids .entry)) (now (states .entry))) (now (answer .entry)) ⌝ }
+    ensures { λ n. ⌜ calledPool n (now (answer .exit)) (now (pool .exit)) ≡ givenPool stateWords (markPlainCall (now (pool .entry)) (stateOf root used) (rankOf key) (currentOf «has_current» current) (statuses (now (ids .entry)) (now (states .entry))) deleter) (now (answer .entry)) ⌝ }
 {
     let st = State { root, used };
     let cur = current_of(has_current, current);
-    give_stated(
+    crate::give_stated(
         answer,
-        call_stamp::mark_deleted(pool, st, key, deleter, cur, ids, states),
+        call_stamp::mark_deleted(pool, st, key, cur, ids, states, deleter),
     )
 }
 
@@ -172,11 +144,11 @@ pub extern "C" fn erbulonge_delete(
     states: &[u8],
     answer: &mut [u64; 8],
 ) -> u8
-    ensures { λ n. ⌜ calledPool n (now (answer .exit)) (now (pool .exit)) ≡ givenPool stateWords (deleteCall (now (pool .entry)) (stateOf root used) (rankOf key) (currentOf «has_current» current) (now (ids .entry)) (now (states .entry))) (now (answer .entry)) ⌝ }
+    ensures { λ n. ⌜ calledPool n (now (answer .exit)) (now (pool .exit)) ≡ givenPool stateWords (deleteCall (now (pool .entry)) (stateOf root used) (rankOf key) (currentOf «has_current» current) (statuses (now (ids .entry)) (now (states .entry)))) (now (answer .entry)) ⌝ }
 {
     let st = State { root, used };
     let cur = current_of(has_current, current);
-    give_stated(answer, call_stamp::delete(pool, st, key, cur, ids, states))
+    crate::give_stated(answer, call_stamp::delete(pool, st, key, cur, ids, states))
 }
 
 #[no_mangle]
@@ -193,11 +165,11 @@ pub extern "C" fn erbulonge_claim(
     states: &[u8],
     answer: &mut [u64; 8],
 ) -> u8
-    ensures { λ n. ⌜ calledPool n (now (answer .exit)) (now (pool .exit)) ≡ givenPool stateWords (claimCall (now (pool .entry)) (stateOf root used) (rankOf key) xmax (now (active .entry)) (currentOf «has_current» current) (now (ids .entry)) (now (states .entry))) (now (answer .entry)) ⌝ }
+    ensures { λ n. ⌜ calledPool n (now (answer .exit)) (now (pool .exit)) ≡ givenPool stateWords (claimCall (now (pool .entry)) (stateOf root used) (rankOf key) (snapshot xmax (now (active .entry)) (currentOf «has_current» current)) (statuses (now (ids .entry)) (now (states .entry)))) (now (answer .entry)) ⌝ }
 {
     let st = State { root, used };
     let cur = current_of(has_current, current);
-    give_stated(
+    crate::give_stated(
         answer,
         call_stamp::claim(pool, st, key, xmax, active, cur, ids, states),
     )
@@ -214,7 +186,7 @@ pub extern "C" fn erbulonge_remove_all_versions(
     ensures { λ n. ⌜ calledPool n (now (answer .exit)) (now (pool .exit)) ≡ givenPool countWords (removeCall (now (pool .entry)) (stateOf root used) (rankOf key)) (now (answer .entry)) ⌝ }
 {
     let st = State { root, used };
-    give_dropped(answer, call_clean::remove_all_versions(pool, st, key))
+    crate::give_counted(answer, call_clean::remove_all_versions(pool, st, key))
 }
 
 #[no_mangle]
@@ -222,16 +194,16 @@ pub extern "C" fn erbulonge_vacuum_deleted_versions(
     pool: &mut [u8],
     root: u32,
     used: u32,
-    bound: u64,
     ids: &[u64],
     states: &[u8],
+    bound: u64,
     answer: &mut [u64; 8],
 ) -> u8
-    ensures { λ n. ⌜ calledPool n (now (answer .exit)) (now (pool .exit)) ≡ givenPool countWords (vacuumCall (now (pool .entry)) (stateOf root used) bound (now (ids .entry)) (now (states .entry))) (now (answer .entry)) ⌝ }
+    ensures { λ n. ⌜ calledPool n (now (answer .exit)) (now (pool .exit)) ≡ givenPool countWords (vacuumCall (now (pool .entry)) (stateOf root used) (statuses (now (ids .entry)) (now (states .entry))) bound) (now (answer .entry)) ⌝ }
 {
     let st = State { root, used };
-    give_dropped(
+    crate::give_counted(
         answer,
-        call_clean::vacuum_deleted_versions(pool, st, bound, ids, states),
+        call_clean::vacuum_deleted_versions(pool, st, ids, states, bound),
     )
 }

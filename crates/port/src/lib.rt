@@ -7,19 +7,20 @@ ghost use mathlib.Core.Path.{_≡_};
 ghost use lib.ListN.{length};
 ghost use Rattle.store.specs.Part.{put};
 ghost use Rattle.page.specs.Key.{rankOf};
-ghost use Rattle.call_read.specs.Answer.{ofCreated, ofFound, ofTold, ofListed};
+ghost use Rattle.call_answers.specs.Answer.{ofFound, ofYesNo, ofCounted, ofStated};
 ghost use Rattle.call_read.specs.Check.{checkCall};
 ghost use Rattle.call_read.specs.Conflict.{conflictCall};
-ghost use Rattle.call_read.specs.Create.{createCall, createAfter};
+ghost use Rattle.call_read.specs.Create.{createCall};
 ghost use Rattle.call_read.specs.Find.{findVisibleCall, findCall};
 ghost use Rattle.call_read.specs.Listings.{versionsOfCall, allVersionsCall};
 ghost use Rattle.call_read.specs.Numbers.{pageNumbersCall};
 ghost use Rattle.call_read.specs.Scan.{scanVisibleCall};
-ghost use Rattle.port.specs.Words.{stateOf, currentOf, stampWords, pointerWords, versionWords, stateWords, flagWords, countWords, called, given, calledList, givenList};
-use call_read::Created;
-use call_read::Found;
-use call_read::Listed;
-use call_read::Told;
+ghost use Rattle.port.specs.Words.{calledPool, givenPool, stateOf, currentOf, stampWords, pointerWords, versionWords, stateWords, flagWords, countWords, called, given, calledList, givenList};
+ghost use Rattle.mvcc.specs.Snapshot.{snapshot, statuses};
+use call_answers::Counted;
+use call_answers::Found;
+use call_answers::Stated;
+use call_answers::YesNo;
 use mvcc::Current;
 use page::pool::State;
 use row::Pointer;
@@ -95,26 +96,26 @@ fn give_found(answer: &mut [u64], r: Found) -> u8
     }
 }
 
-fn give_told(answer: &mut [u64], r: Told) -> u8
+fn give_yes_no(answer: &mut [u64], r: YesNo) -> u8
     requires { ⌜ length (now answer) ≡ 8 ⌝ }
-    ensures { λ n. ⌜ called n (now (answer .exit)) ≡ given flagWords (ofTold r) (now (answer .entry)) ⌝ }
+    ensures { λ n. ⌜ called n (now (answer .exit)) ≡ given flagWords (ofYesNo r) (now (answer .entry)) ⌝ }
 {
     match r {
-        Told::Refused(n) => n,
-        Told::Done(yes) => {
+        YesNo::Refused(n) => n,
+        YesNo::Done(yes) => {
             answer[0] = if yes { 1 } else { 0 };
             0
         }
     }
 }
 
-fn give_created(answer: &mut [u64], r: Created) -> u8
+pub(crate) fn give_stated(answer: &mut [u64], r: Stated) -> u8
     requires { ⌜ length (now answer) ≡ 8 ⌝ }
-    ensures { λ n. ⌜ called n (now (answer .exit)) ≡ given stateWords (ofCreated r) (now (answer .entry)) ⌝ }
+    ensures { λ n. ⌜ called n (now (answer .exit)) ≡ given stateWords (ofStated r) (now (answer .entry)) ⌝ }
 {
     match r {
-        Created::Refused(n) => n,
-        Created::Done(st) => {
+        Stated::Refused(n) => n,
+        Stated::Done(st) => {
             answer[0] = st.root as u64;
             answer[1] = st.used as u64;
             0
@@ -122,13 +123,13 @@ fn give_created(answer: &mut [u64], r: Created) -> u8
     }
 }
 
-fn give_listed(answer: &mut [u64], r: Listed) -> u8
+pub(crate) fn give_counted(answer: &mut [u64], r: Counted) -> u8
     requires { ⌜ length (now answer) ≡ 8 ⌝ }
-    ensures { λ n. ⌜ called n (now (answer .exit)) ≡ given countWords (ofListed r) (now (answer .entry)) ⌝ }
+    ensures { λ n. ⌜ called n (now (answer .exit)) ≡ given countWords (ofCounted r) (now (answer .entry)) ⌝ }
 {
     match r {
-        Listed::Refused(n) => n,
-        Listed::Done(len) => {
+        Counted::Refused(n) => n,
+        Counted::Done(len) => {
             answer[0] = len as u64;
             0
         }
@@ -142,17 +143,16 @@ pub extern "C" fn erbulonge_create(
     used: u32,
     answer: &mut [u64; 8],
 ) -> u8
-    ensures { λ n. ⌜ called n (now (answer .exit)) ≡ given stateWords (createCall (now (pool .entry)) (stateOf root used)) (now (answer .entry)) ⌝ }
-    ensures { λ _. ⌜ now (pool .exit) ≡ createAfter (now (pool .entry)) (stateOf root used) ⌝ }
+    ensures { λ n. ⌜ calledPool n (now (answer .exit)) (now (pool .exit)) ≡ givenPool stateWords (createCall (now (pool .entry)) (stateOf root used)) (now (answer .entry)) ⌝ }
 {
-    give_created(answer, call_read::create(pool, State { root, used }))
+    give_stated(answer, call_read::create(pool, State { root, used }))
 }
 
 #[no_mangle]
 pub extern "C" fn erbulonge_check(pool: &[u8], root: u32, used: u32, answer: &mut [u64; 8]) -> u8
     ensures { λ n. ⌜ called n (now (answer .exit)) ≡ given flagWords (checkCall (now (pool .entry)) (stateOf root used)) (now (answer .entry)) ⌝ }
 {
-    give_told(answer, call_read::check(pool, State { root, used }))
+    give_yes_no(answer, call_read::check(pool, State { root, used }))
 }
 
 #[no_mangle]
@@ -169,7 +169,7 @@ pub extern "C" fn erbulonge_find_visible(
     states: &[u8],
     answer: &mut [u64; 8],
 ) -> u8
-    ensures { λ n. ⌜ called n (now (answer .exit)) ≡ given versionWords (findVisibleCall (now (pool .entry)) (stateOf root used) (rankOf key) xmax (now (active .entry)) (currentOf «has_current» current) (now (ids .entry)) (now (states .entry))) (now (answer .entry)) ⌝ }
+    ensures { λ n. ⌜ called n (now (answer .exit)) ≡ given versionWords (findVisibleCall (now (pool .entry)) (stateOf root used) (rankOf key) (snapshot xmax (now (active .entry)) (currentOf «has_current» current)) (statuses (now (ids .entry)) (now (states .entry)))) (now (answer .entry)) ⌝ }
 {
     let st = State { root, used };
     let cur = current_of(has_current, current);
@@ -191,7 +191,7 @@ pub extern "C" fn erbulonge_find(
     states: &[u8],
     answer: &mut [u64; 8],
 ) -> u8
-    ensures { λ n. ⌜ called n (now (answer .exit)) ≡ given versionWords (findCall (now (pool .entry)) (stateOf root used) (rankOf key) (currentOf «has_current» current) (now (ids .entry)) (now (states .entry))) (now (answer .entry)) ⌝ }
+    ensures { λ n. ⌜ called n (now (answer .exit)) ≡ given versionWords (findCall (now (pool .entry)) (stateOf root used) (rankOf key) (currentOf «has_current» current) (statuses (now (ids .entry)) (now (states .entry)))) (now (answer .entry)) ⌝ }
 {
     let st = State { root, used };
     let cur = current_of(has_current, current);
@@ -204,20 +204,20 @@ pub extern "C" fn erbulonge_has_write_conflict(
     root: u32,
     used: u32,
     key: i32,
-    seen: u64,
     xmax: u64,
     active: &[u64],
     has_current: bool,
     current: u64,
+    seen: u64,
     answer: &mut [u64; 8],
 ) -> u8
-    ensures { λ n. ⌜ called n (now (answer .exit)) ≡ given flagWords (conflictCall (now (pool .entry)) (stateOf root used) (rankOf key) seen xmax (now (active .entry)) (currentOf «has_current» current)) (now (answer .entry)) ⌝ }
+    ensures { λ n. ⌜ called n (now (answer .exit)) ≡ given flagWords (conflictCall (now (pool .entry)) (stateOf root used) (rankOf key) (snapshot xmax (now (active .entry)) (currentOf «has_current» current)) seen) (now (answer .entry)) ⌝ }
 {
     let st = State { root, used };
     let cur = current_of(has_current, current);
-    give_told(
+    give_yes_no(
         answer,
-        call_read::has_write_conflict(pool, st, key, seen, xmax, active, cur),
+        call_read::has_write_conflict(pool, st, key, xmax, active, cur, seen),
     )
 }
 
@@ -233,7 +233,7 @@ pub extern "C" fn erbulonge_versions_of(
     ensures { λ n. ⌜ calledList n (now (answer .exit)) (now (out .exit)) ≡ givenList (versionsOfCall (now (pool .entry)) (stateOf root used) (rankOf key) (now (out .entry))) (now (answer .entry)) ⌝ }
 {
     let st = State { root, used };
-    give_listed(answer, call_read::versions_of(pool, st, key, out))
+    give_counted(answer, call_read::versions_of(pool, st, key, out))
 }
 
 #[no_mangle]
@@ -247,7 +247,7 @@ pub extern "C" fn erbulonge_all_versions(
     ensures { λ n. ⌜ calledList n (now (answer .exit)) (now (out .exit)) ≡ givenList (allVersionsCall (now (pool .entry)) (stateOf root used) (now (out .entry))) (now (answer .entry)) ⌝ }
 {
     let st = State { root, used };
-    give_listed(answer, call_read::all_versions(pool, st, out))
+    give_counted(answer, call_read::all_versions(pool, st, out))
 }
 
 #[no_mangle]
@@ -264,11 +264,11 @@ pub extern "C" fn erbulonge_scan_visible(
     out: &mut [u8],
     answer: &mut [u64; 8],
 ) -> u8
-    ensures { λ n. ⌜ calledList n (now (answer .exit)) (now (out .exit)) ≡ givenList (scanVisibleCall (now (pool .entry)) (stateOf root used) xmax (now (active .entry)) (currentOf «has_current» current) (now (ids .entry)) (now (states .entry)) (now (out .entry))) (now (answer .entry)) ⌝ }
+    ensures { λ n. ⌜ calledList n (now (answer .exit)) (now (out .exit)) ≡ givenList (scanVisibleCall (now (pool .entry)) (stateOf root used) (snapshot xmax (now (active .entry)) (currentOf «has_current» current)) (statuses (now (ids .entry)) (now (states .entry))) (now (out .entry))) (now (answer .entry)) ⌝ }
 {
     let st = State { root, used };
     let cur = current_of(has_current, current);
-    give_listed(
+    give_counted(
         answer,
         call_read::scan_visible(pool, st, xmax, active, cur, ids, states, out),
     )
@@ -285,5 +285,5 @@ pub extern "C" fn erbulonge_page_numbers(
     ensures { λ n. ⌜ calledList n (now (answer .exit)) (now (out .exit)) ≡ givenList (pageNumbersCall (now (pool .entry)) (stateOf root used) (now (out .entry))) (now (answer .entry)) ⌝ }
 {
     let st = State { root, used };
-    give_listed(answer, call_read::page_numbers(pool, st, out))
+    give_counted(answer, call_read::page_numbers(pool, st, out))
 }

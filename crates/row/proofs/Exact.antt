@@ -10,17 +10,18 @@ use lib.ListN.{length}
 use Rattle.store.specs.Pick.{pick}
 use Rattle.store.specs.Le.{AreBytes, leAt, bytesLE}
 use Rattle.store.specs.Part.{part}
-use Rattle.store.proofs.LeLaws.{length-bytesLE, one-byte, leAt-lt}
-use Rattle.store.proofs.PartLaws.{length-part, part-add, part-peel, part-bytes, leAt-first}
 use Rattle.page.specs.Key.{flip, keyBytes, rankAt}
-use Rattle.page.proofs.KeyLaws.{flip-flip, flip-less}
-use Rattle.row.specs.Read.{stampSize, pointerSize, stampIn, pointerIn, pointerPlace, dataPlace, flagBad, headFault, dataFault, orCell, headAt, cellIn, payloadAt, cellAt}
+use Rattle.row.specs.Read.{stampSize, pointerSize, stampIn, pointerIn, pointerPlace, dataPlace, flagBad, headFault, dataFault, orCell, cellIn, payloadAt, cellAt}
+use Rattle.row.specs.Steps.Read.{headAt}
 use Rattle.row.specs.Write.{stampBytes, pointerBytes, stampLen, pointerLen, cellSize, headBytes, cellBytes, recordBytes}
 use Rattle.row.specs.Exact.{StampFits, PointerFits, WrittenIsRead, CellIs, ReadIsWritten, WorkedRecord}
 use Rattle.row.specs.declared.Stamp.{Stamp}
 use Rattle.row.specs.declared.Pointer.{Pointer}
 use Rattle.row.specs.declared.Cell.{Cell}
 use Rattle.row.specs.declared.read.CellRead.{CellRead}
+use Rattle.store.proofs.LeLaws.{length-bytesLE, one-byte, leAt-lt}
+use Rattle.store.proofs.PartLaws.{length-part, part-add, part-peel, part-bytes, leAt-first}
+use Rattle.page.proofs.KeyLaws.{flip-flip, flip-less}
 use Rattle.row.proofs.Reading.{pick-zero, places, stamp-size-none, stamp-size-by, pointer-size-none, pointer-size-at, stamp-none, stamp-by, pointer-none, pointer-at, pointer-place, data-place, head-got, head-is, payload-cell, cell-whole, data-within, stamp-inside, pointer-inside}
 use Rattle.row.proofs.Writing.{stamp-len, pointer-len, length-stamp}
 

@@ -10,7 +10,8 @@ use lib.ListN.{length}
 use Rattle.store.specs.Pick.{pick}
 use Rattle.store.specs.Le.{leAt}
 use Rattle.page.specs.Key.{rankAt}
-use Rattle.row.specs.Read.{stampSize, pointerSize, stampIn, pointerIn, pointerPlace, dataPlace, flagBad, headFault, dataFault, orHead, orCell, headAt, cellIn, payloadAt, cellAt, endOf, endAt}
+use Rattle.row.specs.Read.{stampSize, pointerSize, stampIn, pointerIn, pointerPlace, dataPlace, flagBad, headFault, dataFault, orCell, cellIn, payloadAt, cellAt}
+use Rattle.row.specs.Steps.Read.{orHead, headAt, endOf, endAt}
 use Rattle.row.specs.declared.Stamp.{Stamp}
 use Rattle.row.specs.declared.Pointer.{Pointer}
 use Rattle.row.specs.declared.read.HeadRead.{HeadRead}

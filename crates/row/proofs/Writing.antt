@@ -6,12 +6,12 @@ use native.Mathlib.Omega.{arith}
 use lib.ListN.{length, length-append}
 use Rattle.store.specs.Le.{bytesLE, putAt}
 use Rattle.store.specs.Part.{put}
-use Rattle.store.proofs.LeLaws.{length-bytesLE, one-byte}
-use Rattle.store.proofs.PutLaws.{putAt-put, put-field, put-after-at}
 use Rattle.page.specs.Key.{flip, keyBytes}
 use Rattle.row.specs.Write.{stampBytes, pointerBytes, stampLen, pointerLen, cellSize, headBytes, cellBytes}
 use Rattle.row.specs.declared.Stamp.{Stamp}
 use Rattle.row.specs.declared.Pointer.{Pointer}
+use Rattle.store.proofs.LeLaws.{length-bytesLE, one-byte}
+use Rattle.store.proofs.PutLaws.{putAt-put, put-field, put-after-at}
 
 -- ---- sizes
 

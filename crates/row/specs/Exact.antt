@@ -9,7 +9,7 @@ use Rattle.store.specs.Le.{AreBytes}
 use Rattle.store.specs.Part.{part}
 use Rattle.page.specs.Key.{rankOf}
 use Rattle.row.specs.Read.{cellAt}
-use Rattle.row.specs.Write.{stampLen, pointerLen, cellSize, cellBytes, recordBytes}
+use Rattle.row.specs.Write.{stampLen, pointerLen, cellSize, cellBytes, recordBytes, maxData}
 use Rattle.row.specs.declared.Stamp.{Stamp}
 use Rattle.row.specs.declared.Pointer.{Pointer}
 use Rattle.row.specs.declared.Cell.{Cell}
@@ -38,7 +38,7 @@ cellOf at key creator st pt n =
 abbrev pub WrittenIsRead : Type 0
 WrittenIsRead =
     (s : List ℕ) (at key creator : ℕ) (st : Stamp) (pt : Pointer) (body : List ℕ) → key < 4294967296 → creator < 18446744073709551616
-    → StampFits st → PointerFits pt → length body ≤ 4051 → at + cellSize st pt (length body) ≤ length s
+    → StampFits st → PointerFits pt → length body ≤ maxData → at + cellSize st pt (length body) ≤ length s
     → part at (cellSize st pt (length body)) s ≡ cellBytes key creator st pt body
     → cellAt s at ≡ CellRead.Got (cellOf at key creator st pt (length body))
 
@@ -46,7 +46,7 @@ WrittenIsRead =
 pub record CellIs (s : List ℕ) (at : ℕ) (c : Cell) : Type 0 where
   pub here : c .at ≡ at
   pub inside : c .next ≤ length s
-  pub few : c .version .len ≤ 4051
+  pub few : c .version .len ≤ maxData
   pub place : c ≡ cellOf at (c .key) (c .version .creator) (c .version .stamp) (c .version .pointer) (c .version .len)
   pub key-fits : c .key < 4294967296
   pub creator-fits : c .version .creator < 18446744073709551616

@@ -11,8 +11,8 @@ use Rattle.page.specs.Key.{rankAt}
 use Rattle.row.specs.declared.Stamp.{Stamp}
 use Rattle.row.specs.declared.Pointer.{Pointer}
 use Rattle.row.specs.declared.Cell.{Cell}
-use Rattle.row.specs.declared.read.HeadRead.{HeadRead}
 use Rattle.row.specs.declared.read.CellRead.{CellRead}
+use Rattle.row.specs.Write.{formatVersion, maxData}
 
 -- "a stamp, which is either absent (byte 0) or byte 1 and the deleter's u64": its size by that byte, and the stamp at i
 unfoldable pub stampSize : ℕ → ℕ
@@ -42,25 +42,18 @@ flagBad s k m = ltb k m && ltb 1 (leAt 1 s k)
 -- The lowest kind that holds of the fields, on the bytes that are there, which end at m; 0 for none.
 unfoldable pub headFault : List ℕ → (i m : ℕ) → ℕ
 headFault s i m =
-    pick (ltb i m && not (eqb (leAt 1 s i) 129)) 1
+    pick (ltb i m && not (eqb (leAt 1 s i) formatVersion)) 1
     (pick (flagBad s (i + 9) m || flagBad s (pointerPlace s i) m) 2
     (pick (ltb m (dataPlace s i)) 3
     0))
 
 -- The same with those of the data: the payload goes on past the bytes that are there, or its data is over 4051.
 unfoldable pub dataFault : List ℕ → (i m : ℕ) → Bool → ℕ
-dataFault s i m past = pick past 3 (pick (ltb 4051 (m - dataPlace s i)) 4 0)
-
-abbrev pub orHead : ℕ → HeadRead → HeadRead
-orHead zero h = h
-orHead (suc k) h = HeadRead.Bad (suc k)
+dataFault s i m past = pick past 3 (pick (ltb maxData (m - dataPlace s i)) 4 0)
 
 abbrev pub orCell : ℕ → CellRead → CellRead
 orCell zero c = c
 orCell (suc k) c = CellRead.Bad (suc k)
-
-unfoldable pub headAt : List ℕ → (i m : ℕ) → HeadRead
-headAt s i m = orHead (headFault s i m) (HeadRead.Got (pointerPlace s i) (dataPlace s i))
 
 -- the cell at `at` whose payload ends at m
 unfoldable pub cellIn : List ℕ → (at m : ℕ) → Cell
@@ -90,11 +83,3 @@ cellAt s at =
     (payloadAt s at (at + 8 + leAt 4 s (at + 4)) false)
     (payloadAt s at (length s) true))
     (CellRead.Bad 3)
-
--- where the cell at an offset ends; 0 for none
-abbrev pub endOf : CellRead → ℕ
-endOf (CellRead.Got c) = c .next
-endOf (CellRead.Bad kind) = 0
-
-unfoldable pub endAt : List ℕ → ℕ → ℕ
-endAt s at = endOf (cellAt s at)

@@ -7,6 +7,14 @@ use Rattle.page.specs.Key.{keyBytes}
 use Rattle.row.specs.declared.Stamp.{Stamp}
 use Rattle.row.specs.declared.Pointer.{Pointer}
 
+-- V, the first byte of every payload
+abbrev pub formatVersion : ℕ
+formatVersion = 129
+
+-- "data 0 to 4051"
+abbrev pub maxData : ℕ
+maxData = 4051
+
 abbrev pub stampBytes : Stamp → List ℕ
 stampBytes Stamp.Absent = 0 ∷ []
 stampBytes (Stamp.By t) = 1 ∷ bytesLE 8 t
@@ -29,7 +37,7 @@ cellSize st pt n = 17 + stampLen st + pointerLen pt + n
 
 -- key, payload length, V, creator
 unfoldable pub headBytes : (key n creator : ℕ) → List ℕ
-headBytes key n creator = keyBytes key ++ (bytesLE 4 n ++ (129 ∷ bytesLE 8 creator))
+headBytes key n creator = keyBytes key ++ (bytesLE 4 n ++ (formatVersion ∷ bytesLE 8 creator))
 
 unfoldable pub cellBytes : (key creator : ℕ) → Stamp → Pointer → List ℕ → List ℕ
 cellBytes key creator st pt body =

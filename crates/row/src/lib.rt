@@ -3,9 +3,13 @@
 pub mod read;
 pub mod write;
 
-// The first byte of every payload (MVCC_ROW_PAYLOAD_FORMAT_VERSION).
-pub const FORMAT_VERSION: u8 = 129;
+ghost use mathlib.Core.Path.{_≡_};
+ghost use Rattle.row.specs.Fault.{structural};
 
+// The first byte of every payload.
+pub const MVCC_ROW_PAYLOAD_FORMAT_VERSION: u8 = 0x81;
+
+// A version's data is at most so long: a cell at the limit still takes a stamp and a pointer.
 pub const MAX_DATA: usize = 4051;
 
 pub enum Stamp {
@@ -40,4 +44,22 @@ pub struct Fault {
     pub kind: u8,
     pub page: u32,
     pub offset: u16,
+}
+
+// Where nothing was met.
+pub const NO_FAULT: Fault = Fault {
+    kind: 0,
+    page: 0,
+    offset: 0,
+};
+
+// The fault of a page whose structure is wrong: its number, type, keys, order or links.
+pub fn structural_fault(p: u32) -> Fault
+    ensures { λ r. ⌜ r ≡ structural p ⌝ }
+{
+    Fault {
+        kind: 0,
+        page: p,
+        offset: 0,
+    }
 }

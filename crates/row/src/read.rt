@@ -4,10 +4,11 @@ ghost use mathlib.Core.Path.{_≡_};
 ghost use Prim.Native.Nat.{_+_, _≤_};
 ghost use lib.ListN.{length};
 ghost use Rattle.store.specs.Le.{leAt};
-ghost use Rattle.row.specs.Read.{stampSize, pointerSize, stampIn, pointerIn, headAt, payloadAt, cellAt, endAt};
+ghost use Rattle.row.specs.Read.{stampSize, pointerSize, stampIn, pointerIn, payloadAt, cellAt};
+ghost use Rattle.row.specs.Steps.Read.{headAt, endAt};
 use crate::Cell;
-use crate::FORMAT_VERSION;
 use crate::MAX_DATA;
+use crate::MVCC_ROW_PAYLOAD_FORMAT_VERSION;
 use crate::Pointer;
 use crate::Stamp;
 use crate::Version;
@@ -66,7 +67,7 @@ fn head_at(s: &[u8], i: usize, m: usize) -> HeadRead
     if m - i < 1 {
         return HeadRead::Bad(3);
     }
-    if store::get8(s, i) != FORMAT_VERSION {
+    if store::get8(s, i) != MVCC_ROW_PAYLOAD_FORMAT_VERSION {
         return HeadRead::Bad(1);
     }
     if m - i < 10 {

@@ -5,7 +5,7 @@ ghost use Prim.Native.Nat.{_+_, _≤_, _<_};
 ghost use lib.ListN.{length};
 ghost use Rattle.store.specs.Part.{put};
 ghost use Rattle.row.specs.Write.{stampLen, pointerLen, cellSize, stampBytes, pointerBytes, headBytes, cellBytes};
-use crate::FORMAT_VERSION;
+use crate::MVCC_ROW_PAYLOAD_FORMAT_VERSION;
 use crate::Pointer;
 use crate::Stamp;
 
@@ -41,7 +41,7 @@ fn put_head(out: &mut [u8], key: u32, n: u32, creator: u64)
 {
     page::key::put_rank(out, 0, key);
     store::put32(out, 4, n);
-    store::put8(out, 8, FORMAT_VERSION);
+    store::put8(out, 8, MVCC_ROW_PAYLOAD_FORMAT_VERSION);
     store::put64(out, 9, creator);
 }
 

@@ -3,7 +3,7 @@
 ghost use mathlib.Core.Path.{_≡_};
 ghost use Prim.Native.Nat.{_+_, _-_, _≤_};
 ghost use lib.ListN.{length};
-ghost use Rattle.store.specs.Part.{part, put, zeros, pad, spliced};
+ghost use Rattle.store.specs.Part.{part, put, zeros};
 
 pub fn copy_in(d: &mut [u8], at: usize, new: &[u8])
     requires { ⌜ at + length (now new) ≤ length (now d) ⌝ }
@@ -60,17 +60,4 @@ pub fn shift(d: &mut [u8], src: usize, dst: usize, n: usize)
     } else {
         copy_up(d, src, dst, n);
     }
-}
-
-// The first e bytes with those from a up to b replaced by new; zeros from there to the end of the slice.
-pub fn splice_body(d: &mut [u8], a: usize, b: usize, e: usize, new: &[u8])
-    requires { ⌜ (a ≤ b) × (b ≤ e) × (e ≤ length (now d)) × (a + length (now new) + (e - b) ≤ length (now d)) ⌝ }
-    ensures { λ _. ⌜ now (d .exit) ≡ pad (length (now (d .entry))) (spliced a b e (now (new .entry)) (now (d .entry))) ⌝ }
-{
-    let m = new.len();
-    let t = e - b;
-    let n = d.len();
-    shift(d, b, a + m, t);
-    copy_in(d, a, new);
-    zero_fill(d, a + m + t, n);
 }

@@ -9,8 +9,8 @@ mod data;
 mod tally;
 mod told;
 
-use call_clean::Cleared;
-use call_insert::Changed;
+use call_answers::Changed;
+use call_answers::CountedAt;
 use mvcc::Current;
 use page::PAGE_SIZE;
 use page::pool::State;
@@ -92,10 +92,10 @@ fn changed(run: Run, r: Changed, done: usize, nothing: usize, counts: &mut Count
 }
 
 // What a call that drops versions came to; 0 is none.
-fn cleared(run: Run, r: Cleared, done: usize, nothing: usize, counts: &mut Counts) -> Run {
+fn cleared(run: Run, r: CountedAt, done: usize, nothing: usize, counts: &mut Counts) -> Run {
     match r {
-        Cleared::Refused(_) => fault(run, counts),
-        Cleared::Done(n) => {
+        CountedAt::Refused(_) => fault(run, counts),
+        CountedAt::Done(n) => {
             tally::note(counts, if n == 0 { nothing } else { done });
             Run {
                 root: run.root,
@@ -156,12 +156,12 @@ fn stamp_key(ours: &mut [u8], run: Run, bits: u32, xmax: u64, d: u64) -> Changed
         ours,
         state_of(run),
         page::key::flip32(bits),
-        d,
         xmax,
         &active,
         Current::Nobody,
         &ids,
         &states,
+        d,
     )
 }
 
@@ -202,7 +202,7 @@ fn vacuum(s: &[u8], ours: &mut [u8], run: Run, counts: &mut Counts) -> Run {
     };
     let ids: [u64; 5] = [3, 4, 6, 8, 9];
     let states: [u8; 5] = [3, 2, 1, 3, 2];
-    let r = call_clean::vacuum_at(ours, state_of(run), bound, &ids, &states);
+    let r = call_clean::vacuum_at(ours, state_of(run), &ids, &states, bound);
     cleared(run, r, tally::VACUUMED, tally::NOTHING_VACUUMED, counts)
 }
 

@@ -10,13 +10,13 @@ use Rattle.page.specs.Page.{page}
 use Rattle.page.specs.Header.{nextLeaf, cellCount}
 use Rattle.inner.specs.Inner.{childAt, keysOf, childrenOf}
 use Rattle.leaf.specs.Rows.{rows}
-use Rattle.tree_check.specs.Check.{soundInner, soundKids, sound, leavesOf, pagesOf, linked, wellAt, wellFormed}
+use Rattle.tree_check.specs.Check.{soundInner, soundKids, soundTree, leavesOf, pagesOf, leavesLinked, wellAt, isWellFormed}
 use Rattle.tree.specs.Distinct.{distinct}
-use Rattle.tree.proofs.Ways.{and-both}
-use Rattle.tree_check.proofs.Linking.{each-one}
 use Rattle.theory_tree.specs.Pages.{Page, leafPage, innerPage}
 use Rattle.theory_tree.specs.View.{view, entriesOf}
-use Rattle.theory_tree.specs.Shape.{Shape, leaf, node, pair, pages, head, rest, Deep, All, Bounded, Sized, IsTree, WellFormed}
+use Rattle.theory_tree.specs.Shape.{Shape, leaf, node, pair, pagesIn, head, rest, Deep, All, Bounded, Sized, IsTree, WellFormed}
+use Rattle.tree.proofs.Ways.{and-both}
+use Rattle.tree_check.proofs.Linking.{each-one}
 use Rattle.theory_tree.proofs.Workers.{roots}
 use Rattle.theory_tree.proofs.Entries.{headOf, restOf, kids}
 use Rattle.theory_tree.proofs.Lists.{all-app, all-left, all-right}
@@ -64,10 +64,10 @@ module _ (used : ℕ) (s : List ℕ) where
     deep : Deep n t
     bounds : Bounded lo hi t
     small : Sized t
-    below : All (λ p. p < used) (pages t)
+    below : All (λ p. p < used) (pagesIn t)
 
-  good-leaf : (par p lo hi : ℕ) → lo ≤ hi → sound 0 used s par p lo hi ≡ true → Good 0 par lo hi (read (view s) 0 p)
-  unfolding sound view
+  good-leaf : (par p lo hi : ℕ) → lo ≤ hi → soundTree 0 used s par p lo hi ≡ true → Good 0 par lo hi (read (view s) 0 p)
+  unfolding soundTree view
   good-leaf par p lo hi h e =
       let g = sound-leaf used par p lo hi s h e in
       let f = g .2 in
@@ -76,13 +76,13 @@ module _ (used : ℕ) (s : List ℕ) where
       (record { hangs = v; deep = refl; bounds = (f .keys, f .sorted); small = tt; below = (g .0, tt) })
 
   -- the children of a page, each one good where it is sound
-  good-run : (n par : ℕ) → ((p lo hi : ℕ) → lo ≤ hi → sound n used s par p lo hi ≡ true → Good n par lo hi (read (view s) n p))
-      → (h : ℕ) (r : List (ℕ × ℕ)) (lo hi : ℕ) → Climbs lo hi (seps r) → soundKids (sound n used s par) lo hi (seps r) (kids h r) ≡ true
+  good-run : (n par : ℕ) → ((p lo hi : ℕ) → lo ≤ hi → soundTree n used s par p lo hi ≡ true → Good n par lo hi (read (view s) n p))
+      → (h : ℕ) (r : List (ℕ × ℕ)) (lo hi : ℕ) → Climbs lo hi (seps r) → soundKids (soundTree n used s par) lo hi (seps r) (kids h r) ≡ true
       → Good n par lo hi (run (read (view s) n) h r)
   unfolding soundKids
   good-run n par each h [] lo hi c e = each h lo hi c e
   good-run n par each h (x ∷ r) lo hi c e =
-      let q = and-both (sound n used s par h lo (x .0)) (soundKids (sound n used s par) (x .0) hi (seps r) (kids (x .1) r)) e in
+      let q = and-both (soundTree n used s par h lo (x .0)) (soundKids (soundTree n used s par) (x .0) hi (seps r) (kids (x .1) r)) e in
       let a = each h lo (x .0) (c .0) (q .0) in
       let b = good-run n par each (x .1) r (x .0) hi (c .1) (q .1) in
       record {
@@ -90,7 +90,7 @@ module _ (used : ℕ) (s : List ℕ) where
         deep = (a .deep, b .deep);
         bounds = (a .bounds, b .bounds);
         small = (a .small, b .small);
-        below = all-app (λ p. p < used) (pages (read (view s) n h)) (pages (run (read (view s) n) (x .1) r)) (a .below) (b .below);
+        below = all-app (λ p. p < used) (pagesIn (read (view s) n h)) (pagesIn (run (read (view s) n) (x .1) r)) (a .below) (b .below);
       }
 
   good-node : (n par p j lo hi : ℕ) (f : Shape) → view s p ≡ innerPage par j (head f) (rest f) → p < used → 1 ≤ length (rest f) → length (rest f) ≤ 510
@@ -98,12 +98,12 @@ module _ (used : ℕ) (s : List ℕ) where
   good-node n par p j lo hi f v u l h g =
       record { hangs = (j, v, g .hangs); deep = (n, refl, g .deep); bounds = g .bounds; small = (l, h, g .small); below = (u, g .below) }
 
-  good : (n par p lo hi : ℕ) → lo ≤ hi → sound n used s par p lo hi ≡ true → Good n par lo hi (read (view s) n p)
-  unfolding sound view
+  good : (n par p lo hi : ℕ) → lo ≤ hi → soundTree n used s par p lo hi ≡ true → Good n par lo hi (read (view s) n p)
+  unfolding soundTree view
   good zero par p lo hi h e = good-leaf par p lo hi h e
   good (suc n) par p lo hi h e =
       let pg = page p s in
-      let q = and-both (soundInner used par p lo hi s) (soundKids (sound n used s p) lo hi (keysOf pg) (childrenOf pg)) e in
+      let q = and-both (soundInner used par p lo hi s) (soundKids (soundTree n used s p) lo hi (keysOf pg) (childrenOf pg)) e in
       let g = sound-inner used par p lo hi s h (q .0) in
       let i = g .2 in
       let v : view s p ≡ innerPage par (nextLeaf pg) (childAt pg 0) (entriesOf pg) = inner-said pg (i .type) (i .low) (i .high) ∙ rw (g .1) in
@@ -132,9 +132,9 @@ seps-climb lo hi (node p f) h = bnd-le lo hi f h
 seps-climb lo hi (pair a k b) h = rw map-append (climbs-append lo k hi (seps (rest a)) (seps (rest b)) (seps-climb lo k a (h .0)) (seps-climb k hi b (h .1)))
 
 module _ (used : ℕ) (s : List ℕ) where
-  run-sound : (n par lo hi : ℕ) (t : Shape) → Hung s par t → Deep n t → Bounded lo hi t → All (λ p. p < used) (pages t)
-      → soundKids (sound n used s par) lo hi (seps (rest t)) (kids (head t) (rest t)) ≡ true
-  unfolding soundKids sound
+  run-sound : (n par lo hi : ℕ) (t : Shape) → Hung s par t → Deep n t → Bounded lo hi t → All (λ p. p < used) (pagesIn t)
+      → soundKids (soundTree n used s par) lo hi (seps (rest t)) (kids (head t) (rest t)) ≡ true
+  unfolding soundKids soundTree
   run-sound n par lo hi (leaf p rs) h d b u =
       let y = leaf-at s p _ _ _ h in
       let f : LeafFits lo hi (page p s)
@@ -147,9 +147,9 @@ module _ (used : ℕ) (s : List ℕ) where
       rw (d .1, inner-sound used par p lo hi s (u .0) (y .parent) i, ks, children-of s p par (h .0) (head f) (rest f) (h .1))
       (run-sound (d .0) p lo hi f (h .2) (d .2) b (u .1))
   run-sound n par lo hi (pair a k b) h d w u =
-      kids-append (sound n used s par) lo k hi (head a) (head b) (rest a) (rest b)
-      (run-sound n par lo k a (h .0) (d .0) (w .0) (all-left (λ p. p < used) (pages a) (pages b) u))
-      (run-sound n par k hi b (h .1) (d .1) (w .1) (all-right (λ p. p < used) (pages a) (pages b) u))
+      kids-append (soundTree n used s par) lo k hi (head a) (head b) (rest a) (rest b)
+      (run-sound n par lo k a (h .0) (d .0) (w .0) (all-left (λ p. p < used) (pagesIn a) (pagesIn b) u))
+      (run-sound n par k hi b (h .1) (d .1) (w .1) (all-right (λ p. p < used) (pagesIn a) (pagesIn b) u))
 
 -- ---- the tree
 
@@ -158,7 +158,7 @@ module _ (s : List ℕ) (n par root : ℕ) (t : Shape) (tree : IsTree t) (top : 
   one-root : roots t ≡ root ∷ []
   one-root = roots-is t ∙ rw (tree-rest t tree, top)
 
-  tree-pages : pages t ≡ pagesOf n s root
+  tree-pages : pagesIn t ≡ pagesOf n s root
   tree-pages = pages-of s n par t h d ∙ (rw one-root (each-one (pagesOf n s) root))
 
   tree-ends : ends t ≡ leavesOf n s root
@@ -170,8 +170,8 @@ module _ (used root : ℕ) (s : List ℕ) where
   unfolding wellAt
   well-is n few e =
       let t = read (view s) n root in
-      let a = and-both (sound n used s 0 root 0 4294967295) (linked s (leavesOf n s root) && distinct (pagesOf n s root)) e in
-      let b = and-both (linked s (leavesOf n s root)) (distinct (pagesOf n s root)) (a .1) in
+      let a = and-both (soundTree n used s 0 root 0 4294967295) (leavesLinked s (leavesOf n s root) && distinct (pagesOf n s root)) e in
+      let b = and-both (leavesLinked s (leavesOf n s root)) (distinct (pagesOf n s root)) (a .1) in
       let g = good used s n 0 root 0 4294967295 (omega arith) (a .0) in
       let l = links-all s t (rw (tree-ends s n 0 root t (read-tree s n root) (read-head s n root) (g .hangs) (g .deep)) (b .0)) in
       record {
@@ -182,7 +182,7 @@ module _ (used root : ℕ) (s : List ℕ) where
         bounds = g .bounds;
         small = g .small;
         later = later s 0 t l;
-        distinct = none-twice (pages t) (rw (tree-pages s n 0 root t (read-tree s n root) (read-head s n root) (g .hangs) (g .deep)) (b .1));
+        distinct = none-twice (pagesIn t) (rw (tree-pages s n 0 root t (read-tree s n root) (read-head s n root) (g .hangs) (g .deep)) (b .1));
         below = g .below;
       }
 
@@ -193,22 +193,22 @@ module _ (used root : ℕ) (s : List ℕ) where
       let d = f .level .2 in
       let h = hung s 0 0 t (f .rep) in
       let z = run-sound used s n 0 0 4294967295 t h d (f .bounds) (f .below) in
-      let a : sound n used s 0 root 0 4294967295 ≡ true = rw (tree-rest t (f .tree), f .root-is) at z in
-      let b : linked s (leavesOf n s root) ≡ true = rw (tree-ends s n 0 root t (f .tree) (f .root-is) h d) at (linked-all s t (links s 0 0 t (f .rep) (f .later))) in
-      let c : distinct (pagesOf n s root) ≡ true = rw (tree-pages s n 0 root t (f .tree) (f .root-is) h d) at (twice-none (pages t) (f .distinct)) in
+      let a : soundTree n used s 0 root 0 4294967295 ≡ true = rw (tree-rest t (f .tree), f .root-is) at z in
+      let b : leavesLinked s (leavesOf n s root) ≡ true = rw (tree-ends s n 0 root t (f .tree) (f .root-is) h d) at (linked-all s t (links s 0 0 t (f .rep) (f .later))) in
+      let c : distinct (pagesOf n s root) ≡ true = rw (tree-pages s n 0 root t (f .tree) (f .root-is) h d) at (twice-none (pagesIn t) (f .distinct)) in
       rw (a, b) c
 
   -- one of four levels
-  any-level : (n : ℕ) → n ≤ 3 → wellAt n used root s ≡ true → wellFormed used root s ≡ true
-  unfolding wellFormed
+  any-level : (n : ℕ) → n ≤ 3 → wellAt n used root s ≡ true → isWellFormed used root s ≡ true
+  unfolding isWellFormed
   any-level zero h e = rw e
   any-level (suc zero) h e = rw e (or-true (wellAt 0 used root s))
   any-level (suc (suc zero)) h e = rw (e, or-true (wellAt 1 used root s)) (or-true (wellAt 0 used root s))
   any-level (suc (suc (suc zero))) h e = rw (e, or-true (wellAt 2 used root s), or-true (wellAt 1 used root s)) (or-true (wellAt 0 used root s))
   any-level (suc (suc (suc (suc n)))) h e = absurd (omega arith)
 
-  some-level : wellFormed used root s ≡ true → (n : ℕ) × (n ≤ 3) × (wellAt n used root s ≡ true)
-  unfolding wellFormed
+  some-level : isWellFormed used root s ≡ true → (n : ℕ) × (n ≤ 3) × (wellAt n used root s ≡ true)
+  unfolding isWellFormed
   some-level e = by-tests (wellAt 0 used root s) refl (wellAt 1 used root s) refl (wellAt 2 used root s) refl e
     where
       by-tests : (a : Bool) → wellAt 0 used root s ≡ a → (b : Bool) → wellAt 1 used root s ≡ b → (c : Bool) → wellAt 2 used root s ≡ c
@@ -218,10 +218,10 @@ module _ (used root : ℕ) (s : List ℕ) where
       by-tests false p false q true r e = (2, omega arith, r)
       by-tests false p false q false r e = (3, omega arith, e)
 
-pub formed-is : (used root : ℕ) (s : List ℕ) → wellFormed used root s ≡ true → (t : Shape) × WellFormed (view s) root used t
+pub formed-is : (used root : ℕ) (s : List ℕ) → isWellFormed used root s ≡ true → (t : Shape) × WellFormed (view s) root used t
 formed-is used root s e =
     let l = some-level used root s e in
     (read (view s) (l .0) root, well-is used root s (l .0) (l .1) (l .2))
 
-pub formed-yes : (used root : ℕ) (s : List ℕ) (t : Shape) → WellFormed (view s) root used t → wellFormed used root s ≡ true
+pub formed-yes : (used root : ℕ) (s : List ℕ) (t : Shape) → WellFormed (view s) root used t → isWellFormed used root s ≡ true
 formed-yes used root s t f = any-level used root s (f .level .0) (f .level .1) (well-at used root s t f)

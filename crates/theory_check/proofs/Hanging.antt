@@ -9,13 +9,13 @@ use Rattle.page.specs.Page.{page}
 use Rattle.page.specs.Header.{nextLeaf}
 use Rattle.inner.specs.Inner.{childrenOf}
 use Rattle.mvcc.specs.Lists.{mem}
-use Rattle.tree_check.specs.Check.{eachOf, leavesOf, pagesOf, linked}
+use Rattle.tree_check.specs.Check.{eachOf, leavesOf, pagesOf, leavesLinked}
 use Rattle.tree.specs.Distinct.{distinct}
-use Rattle.tree.proofs.Ways.{and-both}
-use Rattle.tree_check.proofs.Linking.{each-append}
 use Rattle.theory_tree.specs.Pages.{leafPage, innerPage}
 use Rattle.theory_tree.specs.View.{view}
-use Rattle.theory_tree.specs.Shape.{Shape, leaf, node, pair, pages, head, rest, first, Holds, Deep, NoneTwice, LaterNotZero}
+use Rattle.theory_tree.specs.Shape.{Shape, leaf, node, pair, pagesIn, head, rest, first, Holds, Deep, NoneTwice, LaterNotZero}
+use Rattle.tree.proofs.Ways.{and-both}
+use Rattle.tree_check.proofs.Linking.{each-append}
 use Rattle.theory_tree.proofs.Workers.{roots}
 use Rattle.theory_tree.proofs.Lists.{mem-out, out-mem}
 use Rattle.theory_tree.proofs.Enter.{roots-is}
@@ -88,20 +88,20 @@ zero-ends (node p f) l h = zero-ends f l h
 zero-ends (pair a k b) l h = rw append-assoc (zero-ends a (ends b ++ l) h)
 
 module _ (s : List ℕ) where
-  linked-first : (p : ℕ) (l : List ℕ) → linked s (p ∷ l) ≡ true → (nextLeaf (page p s) ≡ front l) × (linked s l ≡ true) × NotZero l
-  unfolding linked
+  linked-first : (p : ℕ) (l : List ℕ) → leavesLinked s (p ∷ l) ≡ true → (nextLeaf (page p s) ≡ front l) × (leavesLinked s l ≡ true) × NotZero l
+  unfolding leavesLinked
   linked-first p [] e = (eqb-true (nextLeaf (page p s)) 0 e, refl, tt)
   linked-first p (y ∷ ys) e =
-      let a = and-both (eqb (nextLeaf (page p s)) y) (not (eqb y 0) && linked s (y ∷ ys)) e in
-      let b = and-both (not (eqb y 0)) (linked s (y ∷ ys)) (a .1) in
+      let a = and-both (eqb (nextLeaf (page p s)) y) (not (eqb y 0) && leavesLinked s (y ∷ ys)) e in
+      let b = and-both (not (eqb y 0)) (leavesLinked s (y ∷ ys)) (a .1) in
       (eqb-true (nextLeaf (page p s)) y (a .0), b .1, eqb-false y 0 (not-true (eqb y 0) (b .0)))
 
-  first-linked : (p : ℕ) (l : List ℕ) → nextLeaf (page p s) ≡ front l → linked s l ≡ true → NotZero l → linked s (p ∷ l) ≡ true
-  unfolding linked
+  first-linked : (p : ℕ) (l : List ℕ) → nextLeaf (page p s) ≡ front l → leavesLinked s l ≡ true → NotZero l → leavesLinked s (p ∷ l) ≡ true
+  unfolding leavesLinked
   first-linked p [] n e z = eq-eqb (nextLeaf (page p s)) 0 n
   first-linked p (y ∷ ys) n e z = rw (eq-eqb (nextLeaf (page p s)) y n, ne-eqb y 0 z) e
 
-  pub links-of : (t : Shape) (l : List ℕ) → linked s (ends t ++ l) ≡ true → Links s (front l) t × (linked s l ≡ true) × NotZero l
+  pub links-of : (t : Shape) (l : List ℕ) → leavesLinked s (ends t ++ l) ≡ true → Links s (front l) t × (leavesLinked s l ≡ true) × NotZero l
   links-of (leaf p rs) l e = linked-first p l e
   links-of (node p f) l e = links-of f l e
   links-of (pair a k b) l e =
@@ -109,17 +109,17 @@ module _ (s : List ℕ) where
       let v = links-of b l (u .1) in
       ((rw (front-ends b l) at (u .0), ends-zero b l (u .2), v .0), v .1, v .2)
 
-  pub linked-of : (t : Shape) (l : List ℕ) → Links s (front l) t → linked s l ≡ true → NotZero l → linked s (ends t ++ l) ≡ true
+  pub linked-of : (t : Shape) (l : List ℕ) → Links s (front l) t → leavesLinked s l ≡ true → NotZero l → leavesLinked s (ends t ++ l) ≡ true
   linked-of (leaf p rs) l h e z = first-linked p l h e z
   linked-of (node p f) l h e z = linked-of f l h e z
   linked-of (pair a k b) l h e z =
       rw append-assoc (linked-of a (ends b ++ l) (rw (front-ends b l) (h .0)) (linked-of b l (h .2) e z) (zero-ends b l (h .1)))
 
-  pub links-all : (t : Shape) → linked s (ends t) ≡ true → Links s 0 t
+  pub links-all : (t : Shape) → leavesLinked s (ends t) ≡ true → Links s 0 t
   links-all t e = links-of t [] (rw (append-nil (ends t)) e) .0
 
-  pub linked-all : (t : Shape) → Links s 0 t → linked s (ends t) ≡ true
-  unfolding linked
+  pub linked-all : (t : Shape) → Links s 0 t → leavesLinked s (ends t) ≡ true
+  unfolding leavesLinked
   linked-all t h = rw (append-nil (ends t)) at (linked-of t [] h refl tt)
 
 -- ---- all pages, and the leaves
@@ -128,7 +128,7 @@ module _ (s : List ℕ) where
   roots-kids : (par p j : ℕ) (f : Shape) → view s p ≡ innerPage par j (head f) (rest f) → childrenOf (page p s) ≡ roots f
   roots-kids par p j f h = children-of s p par j (head f) (rest f) h ∙ sym (roots-is f)
 
-  pub pages-of : (n par : ℕ) (t : Shape) → Hung s par t → Deep n t → pages t ≡ eachOf (pagesOf n s) (roots t)
+  pub pages-of : (n par : ℕ) (t : Shape) → Hung s par t → Deep n t → pagesIn t ≡ eachOf (pagesOf n s) (roots t)
   unfolding eachOf pagesOf
   pages-of n par (leaf p rs) h d = rw d
   pages-of n par (node p f) h d =

@@ -13,17 +13,18 @@ use Rattle.store.specs.Pick.{pick}
 use Rattle.page.specs.Page.{page}
 use Rattle.page.specs.Header.{nodeType, parentOf, cellCount}
 use Rattle.row.specs.declared.Cell.{Cell}
-use Rattle.leaf.specs.Cells.{cells, foldCells, inOrder, structural, judgeCells, judgeLeaf, onJudged}
+use Rattle.leaf.specs.Cells.{cells, foldCells, inOrder, judgeCells, judgeLeaf, onJudged}
+use Rattle.row.specs.Fault.{structural}
 use Rattle.leaf.specs.Rows.{Row, rowOf, rows}
 use Rattle.leaf.specs.declared.Judged.{Judged}
-use Rattle.leaf.proofs.Chain.{Rising, judged-leaf}
 use Rattle.inner.specs.Inner.{keysOf, neverFalls, judgeInner}
 use Rattle.inner.specs.declared.InnerJudged.{InnerJudged}
-use Rattle.inner.proofs.Routing.{judge-ok}
 use Rattle.tree.specs.Descend.{onInner}
 use Rattle.tree_check.specs.Check.{within, allWithin, cellsWithin, soundLeaf, soundInner}
-use Rattle.tree.proofs.Ways.{and-both}
 use Rattle.theory_tree.specs.Shape.{All, KeysIn, NotAfter, Sorted}
+use Rattle.leaf.proofs.Chain.{Rising, judged-leaf}
+use Rattle.inner.proofs.Routing.{judge-ok}
+use Rattle.tree.proofs.Ways.{and-both}
 use Rattle.theory_tree.proofs.Lists.{all-map}
 use Rattle.theory_tree.proofs.Order.{btw-above, btw-below}
 use Rattle.theory_walks.proofs.Paging.{leaf-judged}

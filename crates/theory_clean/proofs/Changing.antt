@@ -11,20 +11,20 @@ use Rattle.store.specs.Pick.{pick}
 use Rattle.store.specs.Le.{AreBytes}
 use Rattle.page.specs.Page.{page, setPage}
 use Rattle.page.specs.Header.{nodeType, parentOf, nextLeaf}
-use Rattle.page.proofs.PageLaws.{length-page, length-setPage, page-setPage, page-setPage-other}
 use Rattle.leaf.specs.Cells.{cells, judgeLeaf}
 use Rattle.leaf.specs.Rows.{Row, AllFit, rows, rowsBytes, writeRows}
 use Rattle.leaf.specs.RowFacts.{Sound}
 use Rattle.leaf.specs.declared.Judged.{Judged}
+use Rattle.leaf_edit.specs.Edit.{without}
+use Rattle.tree_grow.specs.Steps.Safe.{There}
+use Rattle.theory_tree.specs.Pages.{Pages, leafPage, innerPage}
+use Rattle.theory_tree.specs.View.{said, view}
+use Rattle.theory_tree.specs.Shape.{Shape, leaf, node, pair, pagesIn, head, rest, first, Holds, All, NoneTwice, Bounded, WellFormed}
+use Rattle.page.proofs.PageLaws.{length-page, length-setPage, page-setPage, page-setPage-other}
 use Rattle.leaf.proofs.Bytes.{bytes-page}
 use Rattle.leaf.proofs.Choosing.{any-page}
 use Rattle.leaf.proofs.Chain.{split-at}
 use Rattle.leaf.proofs.RowFacts.{rows-fill}
-use Rattle.leaf_edit.specs.Edit.{without}
-use Rattle.tree_grow.specs.Safe.{There}
-use Rattle.theory_tree.specs.Pages.{Pages, leafPage, innerPage}
-use Rattle.theory_tree.specs.View.{said, view}
-use Rattle.theory_tree.specs.Shape.{Shape, leaf, node, pair, pages, head, rest, first, Holds, All, NoneTwice, Bounded, WellFormed}
 use Rattle.theory_tree.proofs.Says.{kindOf, leaf-said}
 use Rattle.theory_tree.proofs.Contexts.{Ctx, top, inL, inR, under, parC, nxtC, Loc}
 use Rattle.theory_tree.proofs.Lists.{all-app, all-left, all-right, all-map, Out, nd-left, nd-right, nd-apart}
@@ -75,37 +75,37 @@ distinct-apart [] ys d = tt
 distinct-apart (x ∷ xs) ys d = (all-right (λ (l : Loc). x .page ≡ l .page → ⊥) xs ys (d .0), distinct-apart xs ys (d .1))
 
 -- the leaves of a tree are among its pages
-locs-each : (P : ℕ → Type 0) (t : Shape) (c : Ctx) → All P (pages t) → All (λ (l : Loc). P (l .page)) (locs t c)
+locs-each : (P : ℕ → Type 0) (t : Shape) (c : Ctx) → All P (pagesIn t) → All (λ (l : Loc). P (l .page)) (locs t c)
 locs-each P (leaf p rs) c h = h
 locs-each P (node p f) c h = locs-each P f (under p c) (h .1)
 locs-each P (pair a k b) c h =
-    all-app (λ (l : Loc). P (l .page)) (locs a (inL k b c)) (locs b (inR a k c)) (locs-each P a (inL k b c) (all-left P (pages a) (pages b) h))
-    (locs-each P b (inR a k c) (all-right P (pages a) (pages b) h))
+    all-app (λ (l : Loc). P (l .page)) (locs a (inL k b c)) (locs b (inR a k c)) (locs-each P a (inL k b c) (all-left P (pagesIn a) (pagesIn b) h))
+    (locs-each P b (inR a k c) (all-right P (pagesIn a) (pagesIn b) h))
 
-locs-distinct : (t : Shape) (c : Ctx) → NoneTwice (pages t) → Distinct (locs t c)
+locs-distinct : (t : Shape) (c : Ctx) → NoneTwice (pagesIn t) → Distinct (locs t c)
 locs-distinct (leaf p rs) c d = (tt, tt)
 locs-distinct (node p f) c d = locs-distinct f (under p c) (d .1)
 locs-distinct (pair a k b) c d =
     let bs = locs b (inR a k c) in
-    distinct-app (locs a (inL k b c)) bs (locs-distinct a (inL k b c) (nd-left (pages a) (pages b) d)) (locs-distinct b (inR a k c) (nd-right (pages a) (pages b) d))
+    distinct-app (locs a (inL k b c)) bs (locs-distinct a (inL k b c) (nd-left (pagesIn a) (pagesIn b) d)) (locs-distinct b (inR a k c) (nd-right (pagesIn a) (pagesIn b) d))
     (locs-each (λ (x : ℕ). Apart x bs) a (inL k b c)
-    (all-map (λ (x : ℕ). Out x (pages b)) (λ (x : ℕ). Apart x bs) (λ x o. locs-each (λ (y : ℕ). x ≡ y → ⊥) b (inR a k c) o) (pages a) (nd-apart (pages a) (pages b) d)))
+    (all-map (λ (x : ℕ). Out x (pagesIn b)) (λ (x : ℕ). Apart x bs) (λ x o. locs-each (λ (y : ℕ). x ≡ y → ⊥) b (inR a k c) o) (pagesIn a) (nd-apart (pagesIn a) (pagesIn b) d)))
 
 -- those that a search meets are the last ones
-froms-distinct : (k lo hi : ℕ) (t : Shape) (c : Ctx) → Bounded lo hi t → NoneTwice (pages t) → Distinct (froms k t c)
+froms-distinct : (k lo hi : ℕ) (t : Shape) (c : Ctx) → Bounded lo hi t → NoneTwice (pagesIn t) → Distinct (froms k t c)
 froms-distinct k lo hi t c b d =
     let i = before k lo hi t c b in
     distinct-right (i .passed) (froms k t c) (subst Distinct (i .is) (locs-distinct t c d))
 
 -- what holds of its leaves and of its internal pages holds of all its pages
 each-page : (P : ℕ → Type 0) (w : Pages) (par nxt : ℕ) (t : Shape) (c : Ctx) → ((p q j h : ℕ) (r : List (ℕ × ℕ)) → w p ≡ innerPage q j h r → P p) → Holds w par nxt t
-    → All (λ (l : Loc). P (l .page)) (locs t c) → All P (pages t)
+    → All (λ (l : Loc). P (l .page)) (locs t c) → All P (pagesIn t)
 each-page P w par nxt (leaf p rs) c i h a = a
 each-page P w par nxt (node p f) c i h a = (i p par (h .0) (head f) (rest f) (h .1), each-page P w p nxt f (under p c) i (h .2) a)
 each-page P w par nxt (pair a k b) c i h g =
     let xs = locs a (inL k b c) in
     let ys = locs b (inR a k c) in
-    all-app P (pages a) (pages b) (each-page P w par (first b) a (inL k b c) i (h .0) (all-left (λ (l : Loc). P (l .page)) xs ys g))
+    all-app P (pagesIn a) (pagesIn b) (each-page P w par (first b) a (inL k b c) i (h .0) (all-left (λ (l : Loc). P (l .page)) xs ys g))
     (each-page P w par nxt b (inR a k c) i (h .1) (all-right (λ (l : Loc). P (l .page)) xs ys g))
 
 -- ---- leaves changed, one after another
@@ -355,8 +355,8 @@ module _ (f : List Row → List Row) (change : ℕ → List ℕ → List ℕ) (c
     walk-from m p a (l ∷ ls) s n e h d g k o = ap (λ (q : ℕ). walk m a q s) (sym (e 0)) ∙ walk-list m a l ls s n h d g k o
 
     module _ (s : List ℕ) (root : ℕ) (t : Shape) (w : WellFormed (view s) root used t) (h : PoolHas used s) where
-      few : length (pages t) ≤ used
-      few = pigeon used (pages t) (w .distinct) (w .below)
+      few : length (pagesIn t) ≤ used
+      few = pigeon used (pagesIn t) (w .distinct) (w .below)
 
       -- from where search for a key comes to, and from the first leaf
       pub change-search : (key : ℕ) (a : A)

@@ -14,11 +14,10 @@ use Rattle.page.specs.Header.{cellCount, nextLeaf}
 use Rattle.page.specs.Page.{page, setPage}
 use Rattle.page.specs.Pool.{goodPool}
 use Rattle.page.specs.declared.pool.State.{State}
-use Rattle.page.proofs.PageLaws.{length-page, length-setPage, page-setPage-other}
-use Rattle.page.proofs.PoolLaws.{pool-is}
 use Rattle.row.specs.Write.{stampLen}
 use Rattle.row.specs.declared.Stamp.{Stamp}
-use Rattle.mvcc.specs.Lists.{mem, lookup, goodStatuses}
+use Rattle.mvcc.specs.Lists.{mem}
+use Rattle.mvcc.specs.Snapshot.{lookup, goodStatuses, Statuses}
 use Rattle.mvcc.specs.Vacuum.{fate}
 use Rattle.mvcc.specs.declared.vacuum.Fate.{Fate}
 use Rattle.leaf.specs.Cells.{cells, foldCells}
@@ -26,25 +25,27 @@ use Rattle.leaf.specs.Find.{running, runLeaf}
 use Rattle.leaf.specs.Rows.{Row, rows, rowsBytes, writeRows}
 use Rattle.leaf.specs.declared.find.Run.{Run}
 use Rattle.leaf.specs.declared.find.LeafRun.{LeafRun}
+use Rattle.leaf_edit.specs.Edit.{without}
+use Rattle.leaf_vacuum.specs.Vacuum.{clearedRow, onFate, keptRows, changesRows}
+use Rattle.call_answers.specs.Answer.{Ended, Outcome}
+use Rattle.call_clean.specs.Remove.{countAlong, withoutRun, removedAlong, removeCall}
+use Rattle.call_clean.specs.Vacuum.{judgedAlong, sweptLeaf, vacuumedAlong, vacuumCall}
+use Rattle.call_clean.specs.declared.remove.ChainCount.{ChainCount}
+use Rattle.call_clean.specs.declared.vacuum.ChainJudged.{ChainJudged}
+use Rattle.tree_grow.specs.Steps.Safe.{There}
+use Rattle.theory_tree.specs.View.{view}
+use Rattle.theory_tree.specs.Shape.{Shape, leaf, node, pair, pagesIn, first, All, NoneTwice, WellFormed}
+use Rattle.theory_tree.specs.Versions.{only, ofKey}
+use Rattle.page.proofs.PageLaws.{length-page, length-setPage, page-setPage-other}
+use Rattle.page.proofs.PoolLaws.{pool-is}
 use Rattle.leaf.proofs.Bytes.{bytes-page}
 use Rattle.leaf.proofs.Chain.{split-at}
 use Rattle.leaf.proofs.Choosing.{any-page}
 use Rattle.leaf.proofs.RowFacts.{rows-fill}
 use Rattle.leaf.proofs.Rowing.{length-rows, endOf}
-use Rattle.leaf_edit.specs.Edit.{without}
-use Rattle.leaf_vacuum.specs.Vacuum.{clearedRow, onFate, keptRows, changesRows}
 use Rattle.leaf_vacuum.proofs.VacuumFacts.{vacuum-sweeps}
-use Rattle.call_read.specs.Answer.{Outcome, Ended}
-use Rattle.call_clean.specs.Remove.{countAlong, withoutRun, removedAlong, removeCall}
-use Rattle.call_clean.specs.Vacuum.{judgedAlong, sweptLeaf, vacuumedAlong, vacuumCall}
-use Rattle.call_clean.specs.declared.remove.ChainCount.{ChainCount}
-use Rattle.call_clean.specs.declared.vacuum.ChainJudged.{ChainJudged}
 use Rattle.call_clean.proofs.Calls.{remove-pool, remove-ill, remove-done, remove-call, vacuum-pool, vacuum-statuses, vacuum-ill, vacuum-done, vacuum-call}
 use Rattle.call_clean.proofs.Storing.{remove-none, remove-last, remove-end, remove-on, vacuum-none, vacuum-end, vacuum-on}
-use Rattle.tree_grow.specs.Safe.{There}
-use Rattle.theory_tree.specs.View.{view}
-use Rattle.theory_tree.specs.Shape.{Shape, leaf, node, pair, pages, first, All, NoneTwice, WellFormed}
-use Rattle.theory_tree.specs.Versions.{only, ofKey}
 use Rattle.theory_tree.proofs.Contexts.{Ctx, top, inL, inR, under, nxtC, Loc}
 use Rattle.theory_tree.proofs.Lists.{all-app, all-left, all-right, all-map, Out, nd-left, nd-right, nd-apart, nd-join, mem-out}
 use Rattle.theory_tree.proofs.Search.{froms-head}
@@ -64,12 +65,12 @@ abbrev numbers : List Loc → List ℕ
 numbers ls = map (λ (l : Loc). l .page) ls
 
 -- they are pages of the tree, and none twice
-met-each : (P : ℕ → Type 0) (k : ℕ) (t : Shape) (c : Ctx) → All P (pages t) → All P (numbers (froms k t c))
+met-each : (P : ℕ → Type 0) (k : ℕ) (t : Shape) (c : Ctx) → All P (pagesIn t) → All P (numbers (froms k t c))
 met-each P k (leaf p rs) c h = h
 met-each P k (node p f) c h = met-each P k f (under p c) (h .1)
 met-each P k (pair a s b) c h =
-    let hb = all-right P (pages a) (pages b) h in
-    by-left (leb k s) (met-each P k a (inL s b c) (all-left P (pages a) (pages b) h)) (met-each P k b (inR a s c) hb)
+    let hb = all-right P (pagesIn a) (pagesIn b) h in
+    by-left (leb k s) (met-each P k a (inL s b c) (all-left P (pagesIn a) (pagesIn b) h)) (met-each P k b (inR a s c) hb)
     (subst (λ (ls : List Loc). All P (numbers ls)) (froms-zero b (inR a s c)) (met-each P 0 b (inR a s c) hb))
   where
     xs : List Loc
@@ -82,12 +83,12 @@ met-each P k (pair a s b) c h =
     by-left true i j l = rw (map-append (λ (l : Loc). l .page) xs ys) (all-app P (numbers xs) (numbers ys) i l)
     by-left false i j l = j
 
-met-once : (k : ℕ) (t : Shape) (c : Ctx) → NoneTwice (pages t) → NoneTwice (numbers (froms k t c))
+met-once : (k : ℕ) (t : Shape) (c : Ctx) → NoneTwice (pagesIn t) → NoneTwice (numbers (froms k t c))
 met-once k (leaf p rs) c d = d
 met-once k (node p f) c d = met-once k f (under p c) (d .1)
 met-once k (pair a s b) c d =
-    let db = nd-right (pages a) (pages b) d in
-    by-left (leb k s) (met-once k a (inL s b c) (nd-left (pages a) (pages b) d)) (met-once k b (inR a s c) db)
+    let db = nd-right (pagesIn a) (pagesIn b) d in
+    by-left (leb k s) (met-once k a (inL s b c) (nd-left (pagesIn a) (pagesIn b) d)) (met-once k b (inR a s c) db)
     (subst (λ (ls : List Loc). NoneTwice (numbers ls)) (froms-zero b (inR a s c)) (met-once 0 b (inR a s c) db))
   where
     xs : List Loc
@@ -96,12 +97,12 @@ met-once k (pair a s b) c d =
     ys : List Loc
     ys = locs b (inR a s c)
 
-    off : (x : ℕ) → Out x (pages b) → Out x (numbers ys)
+    off : (x : ℕ) → Out x (pagesIn b) → Out x (numbers ys)
     off x o = subst (λ (ls : List Loc). Out x (numbers ls)) (froms-zero b (inR a s c)) (met-each (λ y. x ≡ y → ⊥) 0 b (inR a s c) o)
 
     apart : All (λ x. Out x (numbers ys)) (numbers xs)
     apart =
-        met-each (λ x. Out x (numbers ys)) k a (inL s b c) (all-map (λ x. Out x (pages b)) (λ x. Out x (numbers ys)) off (pages a) (nd-apart (pages a) (pages b) d))
+        met-each (λ x. Out x (numbers ys)) k a (inL s b c) (all-map (λ x. Out x (pagesIn b)) (λ x. Out x (numbers ys)) off (pagesIn a) (nd-apart (pagesIn a) (pagesIn b) d))
 
     by-left : (z : Bool) → NoneTwice (numbers xs) → NoneTwice (numbers (froms k b (inR a s c))) → NoneTwice (numbers ys)
         → NoneTwice (numbers (pick z (xs ++ ys) (froms k b (inR a s c))))
@@ -195,7 +196,7 @@ module _ {A : Type 0} (used : ℕ) (walk : ℕ → A → ℕ → List ℕ → Li
 
     -- from where search for a key comes to
     search-off : (s : List ℕ) (root : ℕ) (t : Shape) → WellFormed (view s) root used t → AreBytes s → used * 4096 ≤ length s → (key m : ℕ) (a : A)
-        → (x : ℕ) → Out x (pages t) → page x (walk m a (leafOf key t) s) ≡ page x s
+        → (x : ℕ) → Out x (pagesIn t) → page x (walk m a (leafOf key t) s) ≡ page x s
     search-off s root t w B room key m a x o =
         let ls = froms key t top in
         from-off x m (leafOf key t) a ls s (froms-head key t top) (met-once key t top (w .distinct))
@@ -226,12 +227,12 @@ module _ (key : ℕ) where
           ap (λ (l : List ℕ). length l) (run-out key pg r e (is .sound))
           ∙ written-long p e pg is (only (λ (x : Row). not (ofKey key x)) (rows pg)) (only-short (λ (x : Row). not (ofKey key x)) (rows pg))
 
-  run-told : (p e : ℕ) (pg : List ℕ) → LeafIs p e pg → runLeaf p key pg ≡ LeafRun.Ok (runOf pg) e (larger key (rows pg))
+  run-told : (p e : ℕ) (pg : List ℕ) → LeafIs p e pg → runLeaf pg p key ≡ LeafRun.Ok (runOf pg) e (larger key (rows pg))
   unfolding runLeaf
   run-told p e pg is = rw (is .judged, larger-is key pg)
 
   abbrev removal : (used : ℕ) → ℕ → Unit {0} → ℕ → List ℕ → List ℕ
-  removal used m a p s = removedAlong used m key p s
+  removal used m a p s = removedAlong s used p key m
 
   remove-turns : (used m : ℕ) (a : Unit {0}) (p e : ℕ) (s : List ℕ) → p < used → LeafIs p e (page p s) → Turn used (removal used) m a p s
   remove-turns used m a p e s low is =
@@ -244,12 +245,12 @@ module _ (key : ℕ) where
       y : List ℕ
       y = withoutRun (runOf (page p s)) e (page p s)
 
-      told : runLeaf p key (page p s) ≡ LeafRun.Ok (runOf (page p s)) e (larger key (rows (page p s)))
+      told : runLeaf (page p s) p key ≡ LeafRun.Ok (runOf (page p s)) e (larger key (rows (page p s)))
       told = run-told p e (page p s) is
 
       by-end : (b : Bool) → larger key (rows (page p s)) ≡ b → (z : Bool) → eqb (nextLeaf (page p s)) 0 ≡ z
-          → (removedAlong used (suc m) key p s ≡ setPage p y s)
-          ⊎ (Unit {0} × (nextLeaf (page p s) ≡ 0 → ⊥) × (removedAlong used (suc m) key p s ≡ removedAlong used m key (nextLeaf (page p s)) (setPage p y s)))
+          → (removedAlong s used p key (suc m) ≡ setPage p y s)
+          ⊎ (Unit {0} × (nextLeaf (page p s) ≡ 0 → ⊥) × (removedAlong s used p key (suc m) ≡ removedAlong (setPage p y s) used (nextLeaf (page p s)) key m))
       by-end true l z q = inl (sym (remove-last used key p s low refl told refl (suc m) (omega arith) l))
       by-end false l true q = inl (sym (remove-end used key p s low refl told refl refl (suc m) (omega arith) l (eqb-true (nextLeaf (page p s)) 0 q)))
       by-end false l false q =
@@ -259,22 +260,22 @@ module _ (key : ℕ) where
 
 -- no page outside the tree changes, whatever the answer
 pub remove-elsewhere : (s : List ℕ) (st : State) (t : Shape) → AreBytes s → WellFormed (view s) (st .root) (st .used) t → (key : ℕ)
-    → (x : ℕ) → x < st .used → mem x (pages t) ≡ false → page x (removeCall s st key .pool) ≡ page x s
+    → (x : ℕ) → x < st .used → mem x (pagesIn t) ≡ false → page x (removeCall s st key .pool) ≡ page x s
 remove-elsewhere s st t B w key x low out = by-pool (goodPool s st) refl
   where
     pool-of : {e : Ended (Outcome ℕ)} → e ≡ removeCall s st key → page x (e .pool) ≡ page x s → page x (removeCall s st key .pool) ≡ page x s
     pool-of q h = ap (λ (e : Ended (Outcome ℕ)). page x (e .pool)) (sym q) ∙ h
 
-    by-count : goodPool s st ≡ true → (c : ChainCount) → c ≡ countAlong (st .used) key (leafOf key t) s → page x (removeCall s st key .pool) ≡ page x s
+    by-count : goodPool s st ≡ true → (c : ChainCount) → c ≡ countAlong s (st .used) (leafOf key t) key → page x (removeCall s st key .pool) ≡ page x s
     by-count good (ChainCount.Ok n) q =
         pool-of (remove-call s st key refl (remove-done s st key refl good refl (descend-search s (st .root) (st .used) t w key) q refl refl) refl)
         (search-off (st .used) (removal key (st .used)) (λ a p y. sym (remove-none (st .used) key p y 0 (omega arith))) (remove-turns key (st .used))
-        s (st .root) t w B (pool-is s st good .room) key (st .used) tt x (mem-out x (pages t) out))
+        s (st .root) t w B (pool-is s st good .room) key (st .used) tt x (mem-out x (pagesIn t) out))
     by-count good (ChainCount.Bad f) q =
         pool-of (remove-call s st key refl (remove-ill s st key refl good refl (descend-search s (st .root) (st .used) t w key) q refl refl) refl) refl
 
     by-pool : (b : Bool) → b ≡ goodPool s st → page x (removeCall s st key .pool) ≡ page x s
-    by-pool true q = by-count (sym q) (countAlong (st .used) key (leafOf key t) s) refl
+    by-pool true q = by-count (sym q) (countAlong s (st .used) (leafOf key t) key) refl
     by-pool false q = pool-of (remove-call s st key refl (remove-pool s st key q refl refl) refl) refl
 
 -- ---- vacuum
@@ -307,7 +308,7 @@ module _ (st : ℕ → ℕ) (bound : ℕ) where
       by-change false = is .sound .whole
 
   abbrev sweeping : (used : ℕ) → ℕ → ℕ → ℕ → List ℕ → List ℕ
-  sweeping used m d p s = vacuumedAlong st bound used m d p s .pool
+  sweeping used m d p s = vacuumedAlong s used p st bound m d .pool
 
   vacuum-turns : (used m d p e : ℕ) (s : List ℕ) → p < used → LeafIs p e (page p s) → Turn used (sweeping used) m d p s
   vacuum-turns used m d p e s low is = record { made = y; long = swept-long p e (page p s) is; ends = by-end (eqb (nextLeaf (page p s)) 0) refl }
@@ -330,33 +331,33 @@ module _ (st : ℕ → ℕ) (bound : ℕ) where
           inr (n, ne, ap (λ (r : Ended ℕ). r .pool) (sym (rw k at (vacuum-on st bound used d p s low refl (is .judged) refl refl refl (suc m) (omega arith) ne))))
 
 -- no page outside the tree changes, whatever the status list and the answer
-pub vacuum-elsewhere : (s : List ℕ) (st : State) (t : Shape) → AreBytes s → WellFormed (view s) (st .root) (st .used) t → (bound : ℕ) (ids states : List ℕ)
-    → (x : ℕ) → x < st .used → mem x (pages t) ≡ false → page x (vacuumCall s st bound ids states .pool) ≡ page x s
-vacuum-elsewhere s st t B w bound ids states x low out = by-pool (goodPool s st) refl
+pub vacuum-elsewhere : (s : List ℕ) (st : State) (t : Shape) → AreBytes s → WellFormed (view s) (st .root) (st .used) t → (bound : ℕ) (ss : Statuses)
+    → (x : ℕ) → x < st .used → mem x (pagesIn t) ≡ false → page x (vacuumCall s st ss bound .pool) ≡ page x s
+vacuum-elsewhere s st t B w bound ss x low out = by-pool (goodPool s st) refl
   where
-    pool-of : {e : Ended (Outcome ℕ)} → e ≡ vacuumCall s st bound ids states → page x (e .pool) ≡ page x s → page x (vacuumCall s st bound ids states .pool) ≡ page x s
+    pool-of : {e : Ended (Outcome ℕ)} → e ≡ vacuumCall s st ss bound → page x (e .pool) ≡ page x s → page x (vacuumCall s st ss bound .pool) ≡ page x s
     pool-of q h = ap (λ (e : Ended (Outcome ℕ)). page x (e .pool)) (sym q) ∙ h
 
-    swept : goodPool s st ≡ true → page x (vacuumedAlong (lookup ids states) bound (st .used) (st .used) 0 (first t) s .pool) ≡ page x s
+    swept : goodPool s st ≡ true → page x (vacuumedAlong s (st .used) (first t) (lookup ss) bound (st .used) 0 .pool) ≡ page x s
     swept good =
         rw (← (first-is t))
-        (search-off (st .used) (sweeping (lookup ids states) bound (st .used))
-        (λ d p y. ap (λ (r : Ended ℕ). r .pool) (sym (vacuum-none (lookup ids states) bound (st .used) d p y 0 (omega arith))))
-        (vacuum-turns (lookup ids states) bound (st .used)) s (st .root) t w B (pool-is s st good .room) 0 (st .used) 0 x (mem-out x (pages t) out))
+        (search-off (st .used) (sweeping (lookup ss) bound (st .used))
+        (λ d p y. ap (λ (r : Ended ℕ). r .pool) (sym (vacuum-none (lookup ss) bound (st .used) d p y 0 (omega arith))))
+        (vacuum-turns (lookup ss) bound (st .used)) s (st .root) t w B (pool-is s st good .room) 0 (st .used) 0 x (mem-out x (pagesIn t) out))
 
-    by-chain : goodPool s st ≡ true → goodStatuses ids states ≡ true → (c : ChainJudged) → c ≡ judgedAlong (st .used) (first t) s
-        → page x (vacuumCall s st bound ids states .pool) ≡ page x s
+    by-chain : goodPool s st ≡ true → goodStatuses ss ≡ true → (c : ChainJudged) → c ≡ judgedAlong s (st .used) (first t)
+        → page x (vacuumCall s st ss bound .pool) ≡ page x s
     by-chain good listed ChainJudged.Ok q =
-        pool-of (vacuum-call s st bound ids states
-        (vacuum-done s st bound ids states refl good refl listed refl (descend-first s (st .root) (st .used) t w) q refl refl) refl) (swept good)
+        pool-of (vacuum-call s st bound ss
+        (vacuum-done s st bound ss refl good refl listed refl (descend-first s (st .root) (st .used) t w) q refl refl) refl) (swept good)
     by-chain good listed (ChainJudged.Bad f) q =
-        pool-of (vacuum-call s st bound ids states
-        (vacuum-ill s st bound ids states refl good refl listed refl (descend-first s (st .root) (st .used) t w) q refl refl) refl) refl
+        pool-of (vacuum-call s st bound ss
+        (vacuum-ill s st bound ss refl good refl listed refl (descend-first s (st .root) (st .used) t w) q refl refl) refl) refl
 
-    by-list : goodPool s st ≡ true → (b : Bool) → b ≡ goodStatuses ids states → page x (vacuumCall s st bound ids states .pool) ≡ page x s
-    by-list good true q = by-chain good (sym q) (judgedAlong (st .used) (first t) s) refl
-    by-list good false q = pool-of (vacuum-call s st bound ids states (vacuum-statuses s st bound ids states refl good q refl refl) refl) refl
+    by-list : goodPool s st ≡ true → (b : Bool) → b ≡ goodStatuses ss → page x (vacuumCall s st ss bound .pool) ≡ page x s
+    by-list good true q = by-chain good (sym q) (judgedAlong s (st .used) (first t)) refl
+    by-list good false q = pool-of (vacuum-call s st bound ss (vacuum-statuses s st bound ss refl good q refl refl) refl) refl
 
-    by-pool : (b : Bool) → b ≡ goodPool s st → page x (vacuumCall s st bound ids states .pool) ≡ page x s
-    by-pool true q = by-list (sym q) (goodStatuses ids states) refl
-    by-pool false q = pool-of (vacuum-call s st bound ids states (vacuum-pool s st bound ids states q refl refl) refl) refl
+    by-pool : (b : Bool) → b ≡ goodPool s st → page x (vacuumCall s st ss bound .pool) ≡ page x s
+    by-pool true q = by-list (sym q) (goodStatuses ss) refl
+    by-pool false q = pool-of (vacuum-call s st bound ss (vacuum-pool s st bound ss q refl refl) refl) refl

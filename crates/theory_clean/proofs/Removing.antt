@@ -14,25 +14,25 @@ use Rattle.page.specs.Page.{page, setPage}
 use Rattle.page.specs.Header.{cellCount, nextLeaf}
 use Rattle.page.specs.Pool.{goodPool}
 use Rattle.page.specs.declared.pool.State.{State}
-use Rattle.page.proofs.PoolLaws.{pool-is}
 use Rattle.leaf.specs.Cells.{cells, foldCells, judgeLeaf}
 use Rattle.leaf.specs.Find.{running, runLeaf}
 use Rattle.leaf.specs.Rows.{Row, rows}
 use Rattle.leaf.specs.declared.Judged.{Judged}
 use Rattle.leaf.specs.declared.find.Run.{Run}
 use Rattle.leaf.specs.declared.find.LeafRun.{LeafRun}
-use Rattle.leaf.proofs.Rowing.{endOf}
-use Rattle.leaf.proofs.RowFacts.{rows-fill}
 use Rattle.leaf_edit.specs.Edit.{without}
 use Rattle.tree.specs.Chain.{stop, go}
-use Rattle.call_read.specs.Answer.{done, ended}
+use Rattle.call_answers.specs.Answer.{done, ended}
 use Rattle.call_clean.specs.Remove.{seenRun, lookRun, countAlong, onRun, withoutRun, removedAlong, removeCall}
 use Rattle.call_clean.specs.declared.remove.ChainCount.{ChainCount}
-use Rattle.call_clean.proofs.Storing.{remove-last, remove-end, remove-on}
-use Rattle.call_clean.proofs.Calls.{remove-done, remove-call}
 use Rattle.theory_tree.specs.View.{view}
 use Rattle.theory_tree.specs.Shape.{Shape, chain, All, WellFormed}
 use Rattle.theory_tree.specs.Versions.{only, ofKey}
+use Rattle.page.proofs.PoolLaws.{pool-is}
+use Rattle.leaf.proofs.Rowing.{endOf}
+use Rattle.leaf.proofs.RowFacts.{rows-fill}
+use Rattle.call_clean.proofs.Storing.{remove-last, remove-end, remove-on}
+use Rattle.call_clean.proofs.Calls.{remove-done, remove-call}
 use Rattle.theory_tree.proofs.Workers.{larger}
 use Rattle.theory_tree.proofs.Contexts.{top, Loc}
 use Rattle.theory_tree.proofs.Lists.{all-map}
@@ -54,7 +54,7 @@ module _ (key : ℕ) where
   abbrev runOf : List ℕ → Run
   runOf pg = foldCells (running key) (record { from = 12; to = 12; count = 0 }) (cells pg)
 
-  run-told : (p e : ℕ) (pg : List ℕ) → judgeLeaf p pg ≡ Judged.Ok e → runLeaf p key pg ≡ LeafRun.Ok (runOf pg) e (larger key (rows pg))
+  run-told : (p e : ℕ) (pg : List ℕ) → judgeLeaf p pg ≡ Judged.Ok e → runLeaf pg p key ≡ LeafRun.Ok (runOf pg) e (larger key (rows pg))
   unfolding runLeaf
   run-told p e pg j = rw (j, larger-is key pg)
 
@@ -81,7 +81,7 @@ module _ (key : ℕ) where
       omega (arith, run-count p e pg j)
 
   module _ (s : List ℕ) (root used : ℕ) (t : Shape) (w : WellFormed (view s) root used t) where
-    counted : countAlong used key (leafOf key t) s ≡ ChainCount.Ok (length (only (ofKey key) (chain t)))
+    counted : countAlong s used (leafOf key t) key ≡ ChainCount.Ok (length (only (ofKey key) (chain t)))
     unfolding countAlong
     counted =
         rw (walk-key (lookRun key) key step count-says count-skips s root used t w 0)
@@ -95,7 +95,7 @@ module _ (key : ℕ) where
 
   -- a leaf without its cells of the key
   abbrev cleared : ℕ → List ℕ → List ℕ
-  cleared p pg = onRun (λ run e l. withoutRun run e pg) pg (runLeaf p key pg)
+  cleared p pg = onRun (λ run e l. withoutRun run e pg) pg (runLeaf pg p key)
 
   clears : (p e : ℕ) (pg : List ℕ) → LeafIs p e pg → Changed othersOf pg (cleared p pg)
   clears p e pg is = rw (run-told p e pg (is .judged), r .told) (by-count (eqb (length (r .out)) 0) refl)
@@ -116,14 +116,14 @@ module _ (key : ℕ) where
     cleared-at : changedAt othersOf cleared clears p s ≡ setPage p (withoutRun (runOf (page p s)) e (page p s)) s
     cleared-at = rw (run-told p e (page p s) (is .judged))
 
-    clear-last : larger key (rows (page p s)) ≡ true → removedAlong used (suc m) key p s ≡ changedAt othersOf cleared clears p s
+    clear-last : larger key (rows (page p s)) ≡ true → removedAlong s used p key (suc m) ≡ changedAt othersOf cleared clears p s
     clear-last l = sym (remove-last used key p s low refl (run-told p e (page p s) (is .judged)) cleared-at (suc m) (omega arith) l)
 
-    clear-end : larger key (rows (page p s)) ≡ false → nextLeaf (page p s) ≡ 0 → removedAlong used (suc m) key p s ≡ changedAt othersOf cleared clears p s
+    clear-end : larger key (rows (page p s)) ≡ false → nextLeaf (page p s) ≡ 0 → removedAlong s used p key (suc m) ≡ changedAt othersOf cleared clears p s
     clear-end l z = sym (remove-end used key p s low refl (run-told p e (page p s) (is .judged)) cleared-at refl (suc m) (omega arith) l z)
 
     clear-on : (n : ℕ) → larger key (rows (page p s)) ≡ false → nextLeaf (page p s) ≡ n → (n ≡ 0 → ⊥)
-        → removedAlong used (suc m) key p s ≡ removedAlong used m key n (changedAt othersOf cleared clears p s)
+        → removedAlong s used p key (suc m) ≡ removedAlong (changedAt othersOf cleared clears p s) used n key m
     clear-on n l q z =
         let k : suc m - 1 ≡ m = omega arith in
         sym (rw k at (remove-on used key p s low refl (run-told p e (page p s) (is .judged)) cleared-at (sym q) (suc m) (omega arith) l z))
@@ -132,9 +132,9 @@ module _ (key : ℕ) where
     abbrev met : List Loc
     met = upTo (larger key) (froms key t top)
 
-    removed : removedAlong used used key (leafOf key t) s ≡ changed othersOf cleared clears met s
+    removed : removedAlong s used (leafOf key t) key used ≡ changed othersOf cleared clears met s
     removed =
-        change-search othersOf cleared clears {A = Unit {0}} {B = List ℕ} used (λ m a p x. removedAlong used m key p x) (λ a x. x) (larger key) (λ a p pg. a)
+        change-search othersOf cleared clears {A = Unit {0}} {B = List ℕ} used (λ m a p x. removedAlong x used p key m) (λ a x. x) (larger key) (λ a p pg. a)
         (λ m a p e x low is l. clear-last used m p e x low is l) (λ m a p e x low is l z. clear-end used m p e x low is l z)
         (λ m a p e n x low is l q z. clear-on used m p e x low is n l q z) s root t w h key tt
 

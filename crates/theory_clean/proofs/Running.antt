@@ -8,7 +8,6 @@ use lib.Dec.{ltb, eqb}
 use lib.ListN.{length, length-append, length-map}
 use borrow.Author.Tests.{ltb-true, ltb-false, eqb-true, eqb-false, eq-eqb, ne-eqb, le-ltb, le-leb}
 use Rattle.store.specs.Pick.{pick}
-use Rattle.store.proofs.PartLaws.{length-part}
 use Rattle.page.specs.Header.{cellCount}
 use Rattle.row.specs.declared.Cell.{Cell}
 use Rattle.leaf.specs.Cells.{cells, foldCells, inOrder, judgeLeaf}
@@ -17,15 +16,16 @@ use Rattle.leaf.specs.Rows.{Row, AllFit, rowOf, rows, rowsBytes, writeRows}
 use Rattle.leaf.specs.RowFacts.{Sound}
 use Rattle.leaf.specs.declared.Judged.{Judged}
 use Rattle.leaf.specs.declared.find.Run.{Run}
+use Rattle.leaf_edit.specs.Edit.{without}
+use Rattle.leaf_edit.specs.EditFacts.{bytesOf}
+use Rattle.theory_tree.specs.Shape.{All}
+use Rattle.theory_tree.specs.Versions.{only, ofKey}
+use Rattle.store.proofs.PartLaws.{length-part}
 use Rattle.leaf.proofs.Finding.{order-le, running-below, running-same, running-above}
 use Rattle.leaf.proofs.Rowing.{length-rows, rows-append, endOf}
 use Rattle.leaf.proofs.Chain.{Rising, end-append, judged-leaf, split-at}
 use Rattle.leaf.proofs.RowFacts.{head-length}
-use Rattle.leaf_edit.specs.Edit.{without}
-use Rattle.leaf_edit.specs.EditFacts.{bytesOf}
 use Rattle.leaf_edit.proofs.EditFacts.{out-is-out}
-use Rattle.theory_tree.specs.Shape.{All}
-use Rattle.theory_tree.specs.Versions.{only, ofKey}
 use Rattle.theory_tree.proofs.Lists.{all-map}
 use Rattle.theory_tree.proofs.Order.{filt-app, filt-none}
 

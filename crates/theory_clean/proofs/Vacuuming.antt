@@ -13,29 +13,29 @@ use Rattle.page.specs.Page.{page, setPage}
 use Rattle.page.specs.Header.{cellCount, nextLeaf}
 use Rattle.page.specs.Pool.{goodPool}
 use Rattle.page.specs.declared.pool.State.{State}
-use Rattle.page.proofs.PoolLaws.{pool-is}
 use Rattle.row.specs.Read.{cellAt}
 use Rattle.row.specs.Write.{stampLen}
 use Rattle.row.specs.declared.Cell.{Cell}
 use Rattle.row.specs.declared.Stamp.{Stamp}
 use Rattle.row.specs.declared.read.CellRead.{CellRead}
-use Rattle.mvcc.specs.Lists.{lookup, goodStatuses}
+use Rattle.mvcc.specs.Snapshot.{lookup, goodStatuses, Statuses}
 use Rattle.mvcc.specs.Vacuum.{fate}
 use Rattle.mvcc.specs.declared.vacuum.Fate.{Fate}
 use Rattle.leaf.specs.Cells.{onCell, judgeLeaf, onJudged}
 use Rattle.leaf.specs.Rows.{Row, AllFit, rows, rowsBytes, writeRows}
-use Rattle.leaf.proofs.Rowing.{length-rows}
-use Rattle.leaf.proofs.RowFacts.{rows-fill}
 use Rattle.leaf_edit.specs.Edit.{without}
 use Rattle.leaf_vacuum.specs.Vacuum.{clearedRow, onFate, keptRows, droppedRows, changesRows, withoutStamp, sweep}
-use Rattle.leaf_vacuum.proofs.VacuumFacts.{vacuum-sweeps}
-use Rattle.call_read.specs.Answer.{Ended, done, ended}
+use Rattle.call_answers.specs.Answer.{done, ended, Ended}
 use Rattle.call_clean.specs.Vacuum.{lookLeaf, judgedAlong, sweptLeaf, vacuumedAlong, vacuumCall}
 use Rattle.call_clean.specs.declared.vacuum.ChainJudged.{ChainJudged}
-use Rattle.call_clean.proofs.Storing.{vacuum-end, vacuum-on}
-use Rattle.call_clean.proofs.Calls.{vacuum-done, vacuum-call}
 use Rattle.theory_tree.specs.View.{view}
 use Rattle.theory_tree.specs.Shape.{Shape, leaf, node, pair, chain, first, All, KeysIn, Sorted, NotAfter, WellFormed}
+use Rattle.page.proofs.PoolLaws.{pool-is}
+use Rattle.leaf.proofs.Rowing.{length-rows}
+use Rattle.leaf.proofs.RowFacts.{rows-fill}
+use Rattle.leaf_vacuum.proofs.VacuumFacts.{vacuum-sweeps}
+use Rattle.call_clean.proofs.Storing.{vacuum-end, vacuum-on}
+use Rattle.call_clean.proofs.Calls.{vacuum-done, vacuum-call}
 use Rattle.theory_tree.proofs.Contexts.{top}
 use Rattle.theory_tree.proofs.Map.{mapS, Keeps}
 use Rattle.theory_tree.proofs.Order.{btw-weak}
@@ -225,19 +225,19 @@ module _ (x : ℕ → ℕ) (bound : ℕ) where
     swept-told : sweptLeaf x bound e (page p s) .told .dropped ≡ droppedRows x bound (rows (page p s))
     swept-told = rw (vacuum-sweeps x bound e (page p s) (is .sound .bytes) (is .sound .whole) (is .sound .judged))
 
-    sweep-end : nextLeaf (page p s) ≡ 0 → vacuumedAlong x bound used (suc m) d p s ≡ ended (step d p (page p s)) (changedAt kept swept sweeps p s)
+    sweep-end : nextLeaf (page p s) ≡ 0 → vacuumedAlong s used p x bound (suc m) d ≡ ended (step d p (page p s)) (changedAt kept swept sweeps p s)
     sweep-end z =
         sym (rw swept-told at (vacuum-end x bound used d p s low refl (is .judged) {w = sweptLeaf x bound e (page p s) .told} refl swept-at refl (suc m) (omega arith) z))
 
     sweep-on : (n : ℕ) → nextLeaf (page p s) ≡ n → (n ≡ 0 → ⊥)
-        → vacuumedAlong x bound used (suc m) d p s ≡ vacuumedAlong x bound used m (step d p (page p s)) n (changedAt kept swept sweeps p s)
+        → vacuumedAlong s used p x bound (suc m) d ≡ vacuumedAlong (changedAt kept swept sweeps p s) used n x bound m (step d p (page p s))
     sweep-on n q z =
         let k : suc m - 1 ≡ m = omega arith in
         sym (rw (k, swept-told) at
         (vacuum-on x bound used d p s low refl (is .judged) {w = sweptLeaf x bound e (page p s) .told} refl swept-at (sym q) (suc m) (omega arith) z))
 
   module _ (s : List ℕ) (root used : ℕ) (t : Shape) (w : WellFormed (view s) root used t) where
-    judged : judgedAlong used (first t) s ≡ ChainJudged.Ok
+    judged : judgedAlong s used (first t) ≡ ChainJudged.Ok
     unfolding judgedAlong
     judged = rw (walk-all lookLeaf (λ n p pg. n) (λ n p pg e j. rw j) s root used t w 0)
 
@@ -245,9 +245,9 @@ module _ (x : ℕ → ℕ) (bound : ℕ) where
     after = changed kept swept sweeps (locs t top) s
 
     module _ (h : PoolHas used s) where
-      vacuumed : vacuumedAlong x bound used used 0 (first t) s ≡ ended (droppedRows x bound (chain t)) after
+      vacuumed : vacuumedAlong s used (first t) x bound used 0 ≡ ended (droppedRows x bound (chain t)) after
       vacuumed =
-          let walked = change-first kept swept sweeps {A = ℕ} {B = Ended ℕ} used (λ m d p y. vacuumedAlong x bound used m d p y) (λ d y. ended d y) (λ rs. false) step
+          let walked = change-first kept swept sweeps {A = ℕ} {B = Ended ℕ} used (λ m d p y. vacuumedAlong y used p x bound m d) (λ d y. ended d y) (λ rs. false) step
           (λ m d p e y low is l. absurd (let z : _≡_ {A = ℕ} 0 1 = cc in omega arith)) (λ m d p e y low is l z. sweep-end used m d p e y low is z)
           (λ m d p e n y low is l q z. sweep-on used m d p e y low is n q z) s root t w h 0 in
           let count : gather step s 0 (locs t top) ≡ 0 + droppedRows x bound (chain t) =
@@ -262,28 +262,28 @@ module _ (x : ℕ → ℕ) (bound : ℕ) where
 
 -- ---- the call
 
-pub record Vacuums (s : List ℕ) (st : State) (bound : ℕ) (ids states : List ℕ) (t : Shape) : Type 0 where
+pub record Vacuums (s : List ℕ) (st : State) (bound : ℕ) (ss : Statuses) (t : Shape) : Type 0 where
   pub pool : List ℕ
   pub tree : Shape
-  pub answer : vacuumCall s st bound ids states ≡ ended (done (droppedRows (lookup ids states) bound (chain t))) pool
+  pub answer : vacuumCall s st ss bound ≡ ended (done (droppedRows (lookup ss) bound (chain t))) pool
   pub bytes : AreBytes pool
   pub long : length pool ≡ length s
   pub holds : WellFormed (view pool) (st .root) (st .used) tree
-  pub rows-are : chain tree ≡ keptRows (lookup ids states) bound (chain t)
+  pub rows-are : chain tree ≡ keptRows (lookup ss) bound (chain t)
 
 pub vacuum-does : (s : List ℕ) (st : State) (t : Shape) → AreBytes s → goodPool s st ≡ true → WellFormed (view s) (st .root) (st .used) t
-    → (bound : ℕ) (ids states : List ℕ) → goodStatuses ids states ≡ true → Vacuums s st bound ids states t
-vacuum-does s st t B good w bound ids states listed =
-    let x = lookup ids states in
+    → (bound : ℕ) (ss : Statuses) → goodStatuses ss ≡ true → Vacuums s st bound ss t
+vacuum-does s st t B good w bound ss listed =
+    let x = lookup ss in
     let h : PoolHas (st .used) s = record { bytes = B; room = pool-is s st good .room } in
     let m = tree-of x bound s (st .root) (st .used) t w h in
     let run =
-    vacuum-done s st bound ids states refl good refl listed refl (descend-first s (st .root) (st .used) t w) refl (judged x bound s (st .root) (st .used) t w)
+    vacuum-done s st bound ss refl good refl listed refl (descend-first s (st .root) (st .used) t w) refl (judged x bound s (st .root) (st .used) t w)
     (sym (vacuumed x bound s (st .root) (st .used) t w h)) in
     record {
       pool = after x bound s (st .root) (st .used) t w;
       tree = mapS (kept x bound) t;
-      answer = sym (vacuum-call s st bound ids states run refl);
+      answer = sym (vacuum-call s st bound ss run refl);
       bytes = m .bytes;
       long = m .long;
       holds = m .holds;

@@ -11,29 +11,29 @@ use lib.Dec.{eqb}
 use lib.ListN.{length, length-append, length-take, length-drop, length-replicate, take, drop}
 use Rattle.store.specs.Part.{part, splice, zeros, pad}
 use Rattle.store.specs.Pick.{pick}
-use Rattle.store.proofs.LeLaws.{length-putAt, leAt-putAt, leAt-putAt-above}
-use Rattle.store.proofs.PartLaws.{le-or-lt, leAt-same, part-part}
-use Rattle.store.proofs.SeamLaws.{part-left, part-right}
 use Rattle.page.specs.Header.{nodeType, cellCount, nextLeaf, withIsRoot, withParent, withCount}
 use Rattle.page.specs.Key.{rankAt}
 use Rattle.page.specs.Page.{page, setPage}
 use Rattle.page.specs.Pool.{nextPage, allocated, withFresh}
 use Rattle.page.specs.declared.pool.State.{State}
-use Rattle.page.proofs.KeyLaws.{flip-less}
-use Rattle.page.proofs.PageLaws.{length-page, length-setPage, page-setPage, page-setPage-other}
 use Rattle.leaf.specs.declared.place.Cut.{Cut}
 use Rattle.leaf_divide.specs.Divide.{leftLeaf, rightLeaf, divided}
 use Rattle.inner.specs.Inner.{keyAt, childAt}
-use Rattle.inner_edit.specs.Edit.{topOf, adopted}
+use Rattle.inner_edit.specs.Edit.{topPage, adopted}
 use Rattle.tree.specs.Climb.{pathOf}
 use Rattle.tree_grow.specs.Grow.{Grown, grown, linked, linkedBoth, topOver, enterOf, movedTo, relinked, topIn, pinOf, keptRoot, settled}
-use Rattle.tree_grow.specs.Safe.{There}
-use Rattle.tree_grow.proofs.Stepping.{top-root, top-used, top-right}
+use Rattle.tree_grow.specs.Steps.Safe.{There}
 use Rattle.tree_room.specs.Up.{dividedUp}
 use Rattle.tree_room.specs.declared.Planned.{Planned}
+use Rattle.theory_grow.specs.Rooted.{Pinned, PinnedRoot, MovedRoot}
+use Rattle.store.proofs.LeLaws.{length-putAt, leAt-putAt, leAt-putAt-above}
+use Rattle.store.proofs.PartLaws.{le-or-lt, leAt-same, part-part}
+use Rattle.store.proofs.SeamLaws.{part-left, part-right}
+use Rattle.page.proofs.KeyLaws.{flip-less}
+use Rattle.page.proofs.PageLaws.{length-page, length-setPage, page-setPage, page-setPage-other}
+use Rattle.tree_grow.proofs.Stepping.{top-root, top-used, top-right}
 use Rattle.theory_tree.proofs.Says.{InnerSays, inner-says}
 use Rattle.theory_stores.proofs.Entering.{says-children, top-long, top-in-long, said-top-in}
-use Rattle.theory_grow.specs.Rooted.{Pinned, PinnedRoot, MovedRoot}
 use Rattle.tree_room.proofs.Rooming.{path-above}
 
 pub moved-root : MovedRoot
@@ -270,7 +270,7 @@ module _ (s : List ℕ) (n : ℕ) (cut : Cut) (v : List ℕ) (long : Long s) whe
   b₀ = withFresh a₂ (record { root = 3; used = 5 })
 
   abbrev b₁ : List ℕ
-  b₁ = setPage 5 (topOf 3 key 4 (page 5 b₀)) b₀
+  b₁ = setPage 5 (topPage 3 key 4 (page 5 b₀)) b₀
 
   g₂-kept : Kept 7 3 a₂ (g₂ .pool)
   unfolding topOver nextPage
@@ -278,7 +278,7 @@ module _ (s : List ℕ) (n : ℕ) (cut : Cut) (v : List ℕ) (long : Long s) whe
       let k₀ : Kept 7 3 a₂ b₀ = kept-fresh a₂ (record { root = 3; used = 5 }) a₂-long (λ e. omega arith) (omega arith) in
       let l₀ : Long b₀ = k₀ .long in
       let k₁ : Kept 7 3 b₀ b₁ =
-      kept-set 7 3 (omega arith) 5 (topOf 3 key 4 (page 5 b₀)) b₀ l₀ (omega arith) (top-long 3 key 4 (page 5 b₀) (length-page 5 b₀ (omega arith))) (λ e. omega arith) in
+      kept-set 7 3 (omega arith) 5 (topPage 3 key 4 (page 5 b₀)) b₀ l₀ (omega arith) (top-long 3 key 4 (page 5 b₀) (length-page 5 b₀ (omega arith))) (λ e. omega arith) in
       let k₂ : Kept 7 3 b₁ (linked 3 5 b₁) = kept-linked 7 3 (omega arith) 3 5 b₁ (k₁ .long) in
       kept-trans 7 3 a₂ b₀ _ k₀ (kept-trans 7 3 b₀ b₁ _ k₁ (kept-trans 7 3 b₁ (linked 3 5 b₁) _ k₂ (kept-linked 7 3 (omega arith) 4 5 (linked 3 5 b₁) (k₂ .long))))
 

@@ -13,42 +13,43 @@ use lib.ListN.{length, take, drop, getD, length-append, length-replicate, take-a
 use Rattle.store.specs.Le.{AreBytes}
 use Rattle.store.specs.Part.{part, zeros, pad}
 use Rattle.store.specs.Pick.{pick}
-use Rattle.store.proofs.LeLaws.{length-putAt, leAt-putAt}
-use Rattle.store.proofs.PartLaws.{le-or-lt, length-part}
-use Rattle.store.proofs.SeamLaws.{length-pad, part-left, part-whole}
 use Rattle.page.specs.Header.{nodeType, cellCount, withIsRoot, withParent}
 use Rattle.page.specs.Key.{rankAt}
 use Rattle.page.specs.Page.{page, setPage}
 use Rattle.page.specs.Pool.{nextPage, allocated, withFresh}
 use Rattle.page.specs.declared.pool.State.{State}
-use Rattle.page.proofs.KeyLaws.{flip-less}
-use Rattle.page.proofs.PageLaws.{length-page, length-setPage, page-setPage, page-setPage-other}
 use Rattle.mvcc.specs.Lists.{mem}
 use Rattle.leaf.specs.Rows.{Row, rowsBytes}
-use Rattle.leaf.proofs.Bytes.{bytes-page}
-use Rattle.leaf.proofs.Rowing.{rows-append}
 use Rattle.leaf_divide.specs.Divide.{divided}
 use Rattle.inner.specs.Inner.{keyAt, childAt, childrenFrom, childrenOf}
-use Rattle.inner_edit.specs.Edit.{entered, withEntry, leftHalf, middleKey, rightHalf, topOf, adopted}
+use Rattle.inner_edit.specs.Edit.{entered, withEntry, leftHalf, middleKey, rightHalf, topPage, adopted}
 use Rattle.inner_edit.specs.Facts.{insertAt, IsPage}
+use Rattle.tree.specs.Climb.{pathOf}
+use Rattle.tree_grow.specs.Grow.{Grown, grown, linked, linkedBoth, topOver, placeIn, halved, movedTo, relinked, topIn, pinOf, enterOf, keptRoot, settled}
+use Rattle.tree_grow.specs.Steps.PlanFacts.{LeafDivided}
+use Rattle.tree_grow.specs.Steps.Safe.{There, Free}
+use Rattle.tree_room.specs.Up.{dividedUp}
+use Rattle.tree_room.specs.declared.Planned.{Planned}
+use Rattle.theory_tree.specs.Pages.{leafPage, innerPage, Pages, withPage}
+use Rattle.theory_tree.specs.Shape.{Shape, leaf, node, pair, pagesIn, head, rest, first, All, WellFormed}
+use Rattle.theory_tree.specs.View.{said, view}
+use Rattle.mvcc.specs.Snapshot.{snapshot}
+use Rattle.store.proofs.LeLaws.{length-putAt, leAt-putAt}
+use Rattle.store.proofs.PartLaws.{le-or-lt, length-part}
+use Rattle.store.proofs.SeamLaws.{length-pad, part-left, part-whole}
+use Rattle.page.proofs.KeyLaws.{flip-less}
+use Rattle.page.proofs.PageLaws.{length-page, length-setPage, page-setPage, page-setPage-other}
+use Rattle.leaf.proofs.Bytes.{bytes-page}
+use Rattle.leaf.proofs.Rowing.{rows-append}
 use Rattle.inner_edit.proofs.Dividing.{length-right}
 use Rattle.inner_edit.proofs.Facts.{halves-divide}
 use Rattle.inner_edit.proofs.Lists.{children-read, read-ext}
-use Rattle.tree.specs.Climb.{pathOf}
-use Rattle.tree_grow.specs.Grow.{Grown, grown, linked, linkedBoth, topOver, placeIn, halved, movedTo, relinked, topIn, pinOf, enterOf, keptRoot, settled}
-use Rattle.tree_grow.specs.PlanFacts.{LeafDivided}
-use Rattle.tree_grow.specs.Safe.{There, Free}
 use Rattle.tree_grow.proofs.Halving.{left-long, right-long}
 use Rattle.tree_grow.proofs.Likeness.{Alike, alike-eq, alike-trans, alike-parent, alike-root, alike-children, Like, like-refl, like-trans, like-linked, like-both}
 use Rattle.tree_grow.proofs.Pinning.{relink-inner, relink-leaf, keep-zero, keep-same, keep-pinned}
 use Rattle.tree_grow.proofs.Entering.{enter-top, enter-room, enter-over}
 use Rattle.tree_grow.proofs.Stepping.{fresh-long, fresh-here, fresh-other, halved-root, halved-used, top-used, top-length, top-other, top-right}
-use Rattle.tree_room.specs.Up.{dividedUp}
-use Rattle.tree_room.specs.declared.Planned.{Planned}
 use Rattle.tree_room.proofs.Keeping.{divided-leaf}
-use Rattle.theory_tree.specs.Pages.{leafPage, innerPage, Pages, withPage}
-use Rattle.theory_tree.specs.Shape.{Shape, leaf, node, pair, pages, head, rest, first, All, WellFormed}
-use Rattle.theory_tree.specs.View.{said, view}
 use Rattle.theory_tree.proofs.Contexts.{Ctx, top, inL, inR, under, plug, preG, postG, parC, nxtC, HoldsC, cut, Grown as Raised, up}
 use Rattle.theory_tree.proofs.Enter.{Entry, Both, OnPage, OnTop, Parts, dv, has, ins-own, parts, repC-frame, roots-is}
 use Rattle.theory_tree.proofs.Enter.{entry-inL, entry-inR, entry-page, entry-half, entry-top, up-room, up-half}
@@ -252,7 +253,7 @@ module _ (x n : ℕ) where
   top-off old sep new g long free o m low =
       let t = g .state .used in
       let s = withFresh (g .pool) (g .state) in
-      let y = topOf old sep new (page t s) in
+      let y = topPage old sep new (page t s) in
       let ls : length s ≡ length (g .pool) = fresh-long (g .pool) (g .state) (free .1) in
       let h : There t s = rw ls (free .1) in
       let ly : length y ≡ 4096 = top-long old sep new (page t s) (length-page t s h) in
@@ -311,7 +312,7 @@ abbrev Enters : (x n : ℕ) → Ctx → (s s′ : Shape) → (l : ℕ) → Type 
 Enters x n c s s′ l =
     (g : Grown) (w : Pages) (m sep new : ℕ) → length (g .pool) ≡ n → sep < 4294967296 → Entry 0 c w s s′ l (m, new) (g .state .used)
     → HoldsC (view (g .pool)) 0 0 c (head s) (rest s) (first s) → AreBytes (g .pool)
-    → up c s′ (g .state .used) .used * 4096 ≤ n → up c s′ (g .state .used) .used ≤ 65536 → x < g .state .used → (x ≡ new → ⊥) → Out x (pages (plug c s))
+    → up c s′ (g .state .used) .used * 4096 ≤ n → up c s′ (g .state .used) .used ≤ 65536 → x < g .state .used → (x ≡ new → ⊥) → Out x (pagesIn (plug c s))
     → Stays x n l (head (plug c s)) g (enterOf (path c) l sep new g) (up c s′ (g .state .used))
 
 -- ---- no page above
@@ -390,22 +391,22 @@ module _ (n : ℕ) (c : Ctx) (g : Grown) (w : Pages) (s s′ : Shape) (l m sep n
   count = says-count pg (parC 0 c) (above .0) (head s) (rest s) says
 
   -- what holds of all pages of s′ holds of the children of p, and of new
-  of-run : (P : ℕ → Type 0) → All P (pages s′) → All P (kids (head s) (rest s)) × P new
+  of-run : (P : ℕ → Type 0) → All P (pagesIn s′) → All P (kids (head s) (rest s)) × P new
   of-run P h =
       let a = roots-all P s′ h in
       (kids-before P l (m, new) (head s) (rest s) (rw (roots-is s′, f .ins .heads, sym (f .ins .rests)) at a), ins-own P l (m, new) s s′ (f .ins) a .1)
 
-  split : Parts (preG c) p [] (pages s′) (postG c)
-  split = parts (preG c) p [] (pages s′) (postG c) (rw append-assoc at (f .distinct))
+  split : Parts (preG c) p [] (pagesIn s′) (postG c)
+  split = parts (preG c) p [] (pagesIn s′) (postG c) (rw append-assoc at (f .distinct))
 
-  below : All (λ q. q < u) (preG c ++ (p ∷ (pages s′ ++ postG c)))
+  below : All (λ q. q < u) (preG c ++ (p ∷ (pagesIn s′ ++ postG c)))
   below = rw append-assoc at (f .below)
 
-  below-run : All (λ q. q < u) (pages s′ ++ postG c)
-  below-run = all-right (λ q. q < u) (preG c) (p ∷ (pages s′ ++ postG c)) below .1
+  below-run : All (λ q. q < u) (pagesIn s′ ++ postG c)
+  below-run = all-right (λ q. q < u) (preG c) (p ∷ (pagesIn s′ ++ postG c)) below .1
 
   kids-low : All (λ q. q < u) (kids (head s) (rest s))
-  kids-low = of-run (λ q. q < u) (all-left (λ q. q < u) (pages s′) (postG c) below-run) .0
+  kids-low = of-run (λ q. q < u) (all-left (λ q. q < u) (pagesIn s′) (postG c) below-run) .0
 
   -- x is in use, and neither p, nor new, nor a child of p
   abbrev Beside : ℕ → Type 0
@@ -514,7 +515,7 @@ module _ (n : ℕ) (c : Ctx) (g : Grown) (w : Pages) (s s′ : Shape) (l m sep n
       clear₂ = halved-clear x n p spot sep new g₁ t₁-long t₁-bytes free₁ p-low in₀ full₁ low n-fits kids-off₁ (new-off x h)
 
     -- the pages around the run, and what those above say of it, stay
-    stay : (z : List ℕ) → All (λ q. q < u) z → Out p z → All (λ q. Out q (pages s′)) z → Agree (view (g .pool)) (view (g₂ .pool)) z
+    stay : (z : List ℕ) → All (λ q. q < u) z → Out p z → All (λ q. Out q (pagesIn s′)) z → Agree (view (g .pool)) (view (g₂ .pool)) z
     stay [] b e d = tt
     stay (q ∷ z) b e d =
         let r = of-run (λ k. q ≡ k → ⊥) (d .0) in
@@ -523,8 +524,8 @@ module _ (n : ℕ) (c : Ctx) (g : Grown) (w : Pages) (s s′ : Shape) (l m sep n
     above₂ : HoldsC (view (g₂ .pool)) 0 0 c p [] (first s)
     above₂ =
         repC-frame (view (g .pool)) (view (g₂ .pool)) 0 0 c p [] (first s)
-        (stay (preG c) (all-left (λ q. q < u) (preG c) (p ∷ (pages s′ ++ postG c)) below) (split .pg) (out-flip (pages s′) (preG c) (split .rg)))
-        (stay (postG c) (all-right (λ q. q < u) (pages s′) (postG c) below-run) (split .po) (out-flip (pages s′) (postG c) (split .ro)))
+        (stay (preG c) (all-left (λ q. q < u) (preG c) (p ∷ (pagesIn s′ ++ postG c)) below) (split .pg) (out-flip (pagesIn s′) (preG c) (split .rg)))
+        (stay (postG c) (all-right (λ q. q < u) (pagesIn s′) (postG c) below-run) (split .po) (out-flip (pagesIn s′) (postG c) (split .ro)))
         (above .2)
 
     abbrev over-it : Shape
@@ -535,7 +536,7 @@ module _ (n : ℕ) (c : Ctx) (g : Grown) (w : Pages) (s s′ : Shape) (l m sep n
     enters = enter-over (p ∷ path c) (path c) p l sep new (g .pool) (g .state) refl refl refl refl (omega (arith, full, count)) refl
 
     -- what is left is the same one level up
-    halves : (x : ℕ) → Beside x → Out x (pages (plug c (node p s))) → up c over-it (suc u) .used * 4096 ≤ n → up c over-it (suc u) .used ≤ 65536
+    halves : (x : ℕ) → Beside x → Out x (pagesIn (plug c (node p s))) → up c over-it (suc u) .used * 4096 ≤ n → up c over-it (suc u) .used ≤ 65536
         → Enters x n c (node p s) over-it p → Stays x n l (head (plug c (node p s))) g (enterOf (p ∷ path c) l sep new g) (up (under p c) s′ u)
     halves x h out room₂ few₂ again =
         let x-low : x < u = h .0 in
@@ -552,10 +553,10 @@ module _ (n : ℕ) (c : Ctx) (g : Grown) (w : Pages) (s s′ : Shape) (l m sep n
         })
 
   -- a page that is not in the tree is beside
-  outside : (x : ℕ) → x < u → (x ≡ new → ⊥) → Out x (pages (plug c (node p s))) → Beside x
+  outside : (x : ℕ) → x < u → (x ≡ new → ⊥) → Out x (pagesIn (plug c (node p s))) → Beside x
   outside x h ne out =
-      let r = all-right (λ q. x ≡ q → ⊥) (preG c) (p ∷ (pages s ++ postG c)) (rw (plug-pages c (node p s)) at out) in
-      (h, r .0, ne, subst (Out x) (roots-is s) (roots-all (λ q. x ≡ q → ⊥) s (all-left (λ q. x ≡ q → ⊥) (pages s) (postG c) (r .1))))
+      let r = all-right (λ q. x ≡ q → ⊥) (preG c) (p ∷ (pagesIn s ++ postG c)) (rw (plug-pages c (node p s)) at out) in
+      (h, r .0, ne, subst (Out x) (roots-is s) (roots-all (λ q. x ≡ q → ⊥) s (all-left (λ q. x ≡ q → ⊥) (pagesIn s) (postG c) (r .1))))
 
 -- ---- all the way up
 
@@ -600,21 +601,21 @@ enter-stays x n (under p c) s s′ l g w m sep new long low f above B room few h
 pub enter-elsewhere : (c : Ctx) (g : Grown) (s s′ : Shape) (l sep new : ℕ) → sep < 4294967296
     → Entry 0 c (withPage (view (g .pool)) new (setPar (parC 0 c) (view (g .pool) new))) s s′ l (sep, new) (g .state .used)
     → AreBytes (g .pool) → up c s′ (g .state .used) .used * 4096 ≤ length (g .pool) → up c s′ (g .state .used) .used ≤ 65536
-    → (x : ℕ) → x < g .state .used → (x ≡ new → ⊥) → mem x (pages (plug c s)) ≡ false → page x (enterOf (path c) l sep new g .pool) ≡ page x (g .pool)
+    → (x : ℕ) → x < g .state .used → (x ≡ new → ⊥) → mem x (pagesIn (plug c s)) ≡ false → page x (enterOf (path c) l sep new g .pool) ≡ page x (g .pool)
 enter-elsewhere c g s s′ l sep new low f B room few x h ne out =
     let w : Pages = view (g .pool) in
     let v : Pages = tied w new (parC 0 c) in
-    let tie : (z : List ℕ) → All (λ q. Out q z) (pages s′) → Agree v w z = λ z d.
+    let tie : (z : List ℕ) → All (λ q. Out q z) (pagesIn s′) → Agree v w z = λ z d.
     all-map (λ q. new ≡ q → ⊥) (λ q. w q ≡ v q) (λ q d. sym (withPage-other w new q (setPar (parC 0 c) (w new)) d)) z
     (ins-own (λ q. Out q z) l (sep, new) s s′ (f .ins) (roots-all (λ q. Out q z) s′ d) .1) in
-    let before : All (λ q. Out q (pages s′ ++ postG c)) (preG c) = nd-apart (preG c) (pages s′ ++ postG c) (f .distinct) in
+    let before : All (λ q. Out q (pagesIn s′ ++ postG c)) (preG c) = nd-apart (preG c) (pagesIn s′ ++ postG c) (f .distinct) in
     let above : HoldsC w 0 0 c (head s) (rest s) (first s) =
     repC-frame v w 0 0 c (head s) (rest s) (first s)
-    (tie (preG c) (out-flip (preG c) (pages s′) (all-map (λ q. Out q (pages s′ ++ postG c)) (λ q. Out q (pages s′))
-    (λ q d. all-left (λ k. q ≡ k → ⊥) (pages s′) (postG c) d) (preG c) before)))
-    (tie (postG c) (nd-apart (pages s′) (postG c) (nd-right (preG c) (pages s′ ++ postG c) (f .distinct))))
+    (tie (preG c) (out-flip (preG c) (pagesIn s′) (all-map (λ q. Out q (pagesIn s′ ++ postG c)) (λ q. Out q (pagesIn s′))
+    (λ q d. all-left (λ k. q ≡ k → ⊥) (pagesIn s′) (postG c) d) (preG c) before)))
+    (tie (postG c) (nd-apart (pagesIn s′) (postG c) (nd-right (preG c) (pagesIn s′ ++ postG c) (f .distinct))))
     (f .above) in
-    enter-stays x (length (g .pool)) c s s′ l g v sep sep new refl low f above B room few h ne (mem-out x (pages (plug c s)) out) .same
+    enter-stays x (length (g .pool)) c s s′ l g v sep sep new refl low f above B room few h ne (mem-out x (pagesIn (plug c s)) out) .same
 
 -- ---- a leaf divides, and all that follows
 
@@ -713,7 +714,7 @@ module _ (s : List ℕ) (root used : ℕ) (c : Ctx) (p : ℕ) (rs left : List Ro
   unfolding dividedUp settled nextPage allocated
   up-is plan path-is cut-is = rw (path-is, path-above p (path c), cut-is, add-one used)
 
-  module _ (x : ℕ) (low : x < used) (out : Out x (pages (plug c (leaf p rs)))) where
+  module _ (x : ℕ) (low : x < used) (out : Out x (pagesIn (plug c (leaf p rs)))) where
     outs : Out x (preG c ++ (p ∷ postG c))
     outs = rw (plug-pages c (leaf p rs)) at out
 
@@ -758,8 +759,8 @@ pub divided-up-elsewhere : (s : List ℕ) (root used : ℕ) (t : Shape) (c : Ctx
     → length (rowsBytes left) ≤ 4084 → length (rowsBytes (z ∷ right)) ≤ 4084 → v ≡ part 0 12 (page p s) ++ rowsBytes (left ++ (z ∷ right))
     → plan .path ≡ pathOf (p ∷ path c) → plan .cut ≡ record { cells = length left; bytes = length (rowsBytes left) }
     → usedAfter root (dividedTree c p used left z right) * 4096 ≤ length s → usedAfter root (dividedTree c p used left z right) ≤ 65536
-    → (x : ℕ) → x < used → mem x (pages t) ≡ false → page x (dividedUp plan p n v (grown s (record { root = root; used = used })) .pool) ≡ page x s
+    → (x : ℕ) → x < used → mem x (pagesIn t) ≡ false → page x (dividedUp plan p n v (grown s (record { root = root; used = used })) .pool) ≡ page x s
 divided-up-elsewhere s root used t c p rs left z right plan n v t-is f B Bv few-left few-right v-is path-is cut-is room few x low out =
     let f₁ : WellFormed (view s) root used (plug c (leaf p rs)) = subst (λ (y : Shape). WellFormed (view s) root used y) t-is f in
     rw (up-is s root used c p rs left z right n v f₁ B Bv few-left few-right v-is room few plan path-is cut-is)
-    (all-off-root s root used c p rs left z right n v f₁ B Bv few-left few-right v-is room few x low (mem-out x (pages (plug c (leaf p rs))) (rw t-is at out)))
+    (all-off-root s root used c p rs left z right n v f₁ B Bv few-left few-right v-is room few x low (mem-out x (pagesIn (plug c (leaf p rs))) (rw t-is at out)))

@@ -12,22 +12,23 @@ use lib.Dec.{leb}
 use lib.ListN.{length, drop, getD}
 use Rattle.store.specs.Le.{AreBytes}
 use Rattle.store.specs.Pick.{pick}
-use Rattle.store.proofs.PartLaws.{le-or-lt}
 use Rattle.page.specs.Page.{page}
 use Rattle.page.specs.Header.{cellCount}
 use Rattle.page.specs.Pool.{nextPage}
+use Rattle.inner_edit.specs.Edit.{middleKey}
+use Rattle.tree_grow.specs.Grow.{Grown, grown, linked, topOver, placeIn, joinedTo, halved, enterOf}
+use Rattle.tree_grow.specs.Steps.Safe.{There, Free}
+use Rattle.theory_tree.specs.Pages.{Page, innerPage, Pages, withPage}
+use Rattle.theory_tree.specs.Shape.{Shape, node, pair, pagesIn, head, rest, Holds, All}
+use Rattle.theory_tree.specs.View.{view}
+use Rattle.mvcc.specs.Snapshot.{snapshot}
+use Rattle.store.proofs.PartLaws.{le-or-lt}
 use Rattle.page.proofs.KeyLaws.{flip-less}
 use Rattle.page.proofs.PageLaws.{length-page}
 use Rattle.leaf.proofs.Bytes.{bytes-page}
-use Rattle.inner_edit.specs.Edit.{middleKey}
-use Rattle.tree_grow.specs.Grow.{Grown, grown, linked, topOver, placeIn, joinedTo, halved, enterOf}
-use Rattle.tree_grow.specs.Safe.{There, Free}
 use Rattle.tree_grow.proofs.Entering.{enter-top}
 use Rattle.tree_grow.proofs.Likeness.{like-linked, alike-place}
 use Rattle.tree_grow.proofs.Stepping.{halved-root, halved-used, top-root, top-used}
-use Rattle.theory_tree.specs.Pages.{Page, innerPage, Pages, withPage}
-use Rattle.theory_tree.specs.Shape.{Shape, node, pair, pages, head, rest, Holds, All}
-use Rattle.theory_tree.specs.View.{view}
 use Rattle.theory_tree.proofs.Workers.{setPar, roots, reparent}
 use Rattle.theory_tree.proofs.Contexts.{Ctx, top, inL, inR, under, plug, preG, postG, parC, Cut, cut, Grown as Raised, up}
 use Rattle.theory_tree.proofs.Cuts.{Half, half}
@@ -241,13 +242,13 @@ module _ (c : Ctx) (g : Grown) (s s′ : Shape) (l sep new p : ℕ) (low : sep <
     going = rw (o .rests, hv .middle, hv .rights, hv .moving)
 
     -- the pages of the run are in use
-    run-low : All (λ q. q < u) (pages s′)
-    run-low = all-left (λ q. q < u) (pages s′) (postG c) (all-right (λ q. q < u) (preG (under p c)) (pages s′ ++ postG c) (f .below))
+    run-low : All (λ q. q < u) (pagesIn s′)
+    run-low = all-left (λ q. q < u) (pagesIn s′) (postG c) (all-right (λ q. q < u) (preG (under p c)) (pagesIn s′ ++ postG c) (f .below))
 
     right-low : All (λ q. q < u) (roots (y .right))
     right-low =
         let e : Half s′ y = half s′ (lt-leb (length (rest s′)) 510 over) in
-        roots-all (λ q. q < u) (y .right) (all-right (λ q. q < u) (pages (y .left)) (pages (y .right)) (rw (e .alike .pagess) at run-low))
+        roots-all (λ q. q < u) (y .right) (all-right (λ q. q < u) (pagesIn (y .left)) (pagesIn (y .right)) (rw (e .alike .pagess) at run-low))
 
     right-there : All (λ q. There q s₁) (kids (getD R 255 (0, 0) .1) (drop 256 R))
     right-there =

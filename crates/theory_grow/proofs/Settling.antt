@@ -18,22 +18,22 @@ use Rattle.page.specs.Key.{rankAt}
 use Rattle.page.specs.Page.{page}
 use Rattle.page.specs.Pool.{nextPage, allocated, withFresh}
 use Rattle.page.specs.declared.pool.State.{State}
-use Rattle.page.proofs.KeyLaws.{flip-less}
 use Rattle.row.specs.Read.{cellAt}
 use Rattle.row.specs.declared.read.CellRead.{CellRead}
-use Rattle.row.proofs.Exact.{cell-fields}
 use Rattle.leaf.specs.Cells.{onCell, cellsOf}
 use Rattle.leaf.specs.Rows.{Row, AllFit, rowOf, rowsOf, rowsBytes}
 use Rattle.tree.specs.Climb.{pathOf}
 use Rattle.tree_grow.specs.Grow.{Grown, grown, enterOf, pinOf, keptRoot, settled}
-use Rattle.tree_grow.specs.Safe.{There}
-use Rattle.tree_grow.proofs.Stepping.{fresh-long, fresh-here, fresh-other}
+use Rattle.tree_grow.specs.Steps.Safe.{There}
 use Rattle.tree_room.specs.Up.{dividedUp}
 use Rattle.tree_room.specs.declared.Planned.{Planned}
-use Rattle.tree_room.proofs.Rooming.{path-above}
 use Rattle.theory_tree.specs.Pages.{Page, leafPage, innerPage, noPage, Pages, withPage}
-use Rattle.theory_tree.specs.Shape.{Shape, leaf, node, pair, chain, pages, head, first, Holds, All, KeysIn, Sorted, IsTree, WellFormed}
+use Rattle.theory_tree.specs.Shape.{Shape, leaf, node, pair, chain, pagesIn, head, first, Holds, All, KeysIn, Sorted, IsTree, WellFormed}
 use Rattle.theory_tree.specs.View.{view}
+use Rattle.page.proofs.KeyLaws.{flip-less}
+use Rattle.row.proofs.Exact.{cell-fields}
+use Rattle.tree_grow.proofs.Stepping.{fresh-long, fresh-here, fresh-other}
+use Rattle.tree_room.proofs.Rooming.{path-above}
 use Rattle.theory_tree.proofs.Contexts.{top-key, Ctx, plug, preC, postC, preG, postG, loC, hiC, parC, nxtC, high, Grown as Raised, up}
 use Rattle.theory_tree.proofs.Cuts.{up-chain}
 use Rattle.theory_tree.proofs.Enter.{Entry, roots-is}
@@ -71,7 +71,7 @@ first-from (suc n) at pg z rs e = by-read (cellAt pg at) refl e
 
 -- ---- the page at the head of a tree that a pool holds
 
-held-head : (w : Pages) (par nxt u : ℕ) (t : Shape) → IsTree t → Holds w par nxt t → All (λ q. q < u) (pages t)
+held-head : (w : Pages) (par nxt u : ℕ) (t : Shape) → IsTree t → Holds w par nxt t → All (λ q. q < u) (pagesIn t)
     → (w (head t) ≡ noPage → ⊥) × All (λ q. q < u) (under? (w (head t)))
 held-head w par nxt u (leaf p rs) t h b = ((λ e. let z : _≡_ {A = ℕ} 0 1 = cc in omega arith), rw h tt)
 held-head w par nxt u (node p f) t h b =
@@ -136,11 +136,11 @@ module _ (g : Grown) (r : ℕ) (y : Raised) (f : WellFormed (view (g .pool)) (g 
   whole : y .shape ≡ node (tops .m) (pair a k b)
   whole = tops .is ∙ ap (λ (s : Shape). node (tops .m) s) (tops .two .is)
 
-  below : All (λ q. q < u) (pages a ++ pages b)
-  below = subst (λ (s : Shape). All (λ q. q < u) (pages s)) whole (f .below) .1
+  below : All (λ q. q < u) (pagesIn a ++ pagesIn b)
+  below = subst (λ (s : Shape). All (λ q. q < u) (pagesIn s)) whole (f .below) .1
 
-  below-a : All (λ q. q < u) (pages a)
-  below-a = all-left (λ q. q < u) (pages a) (pages b) below
+  below-a : All (λ q. q < u) (pagesIn a)
+  below-a = all-left (λ q. q < u) (pagesIn a) (pagesIn b) below
 
   held : Holds w (tops .m) (first b) a
   held = subst (λ (s : Shape). Holds w 0 0 s) whole (f .rep) .2 .0
@@ -149,7 +149,7 @@ module _ (g : Grown) (r : ℕ) (y : Raised) (f : WellFormed (view (g .pool)) (g 
   low-a = subst (λ (l : List ℕ). All (λ q. q < u) l) (tree-pages a (tops .two .left-tree)) below-a .0
 
   low-b : head b < u
-  low-b = subst (λ (l : List ℕ). All (λ q. q < u) l) (tree-pages b (tops .two .right-tree)) (all-right (λ q. q < u) (pages a) (pages b) below) .0
+  low-b = subst (λ (l : List ℕ). All (λ q. q < u) l) (tree-pages b (tops .two .right-tree)) (all-right (λ q. q < u) (pagesIn a) (pagesIn b) below) .0
 
   low-r : r < u
   low-r = subst (λ (q : ℕ). q < u) (tops .two .heads) low-a

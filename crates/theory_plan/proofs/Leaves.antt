@@ -11,7 +11,6 @@ use lib.ListN.{length, take, drop, length-append, length-map, take-append-drop}
 use lib.Seq.{take-at, drop-at}
 use borrow.Author.Tests.{lt-ltb, le-ltb, le-leb, lt-leb, eq-eqb, ne-eqb, ltb-true, ltb-false}
 use Rattle.store.specs.Part.{part}
-use Rattle.store.proofs.PartLaws.{le-or-lt}
 use Rattle.page.specs.Page.{page}
 use Rattle.page.specs.Header.{cellCount}
 use Rattle.row.specs.declared.Cell.{Cell}
@@ -19,17 +18,18 @@ use Rattle.leaf.specs.Cells.{cells, foldCells, inOrder}
 use Rattle.leaf.specs.Rows.{Row, RowFits, AllFit, rowOf, rows, rowSize, rowBytes, rowsBytes, writeRows}
 use Rattle.leaf.specs.Place.{placeStep, placeOf, cutOf, cutLeaf, cutFits}
 use Rattle.leaf.specs.declared.place.Place.{Place}
-use Rattle.leaf.proofs.Rowing.{length-rows}
-use Rattle.leaf.proofs.RowFacts.{rows-fill}
 use Rattle.leaf_edit.specs.Edit.{withCell}
 use Rattle.leaf_edit.specs.EditFacts.{insertRow}
-use Rattle.leaf_edit.proofs.EditFacts.{insert-spliced, insert-inserts}
 use Rattle.tree_insert.specs.Insert.{bytesWith, cutWith, splicedAt}
 use Rattle.tree_insert.specs.declared.Spot.{Spot}
-use Rattle.tree_insert.proofs.Spotting.{SpotIs}
-use Rattle.tree_insert.proofs.Cutting.{Sides, sides}
 use Rattle.theory_tree.specs.View.{view}
 use Rattle.theory_tree.specs.Shape.{leaf, All, KeysIn, NotAfter, Sorted, WellFormed}
+use Rattle.store.proofs.PartLaws.{le-or-lt}
+use Rattle.leaf.proofs.Rowing.{length-rows}
+use Rattle.leaf.proofs.RowFacts.{rows-fill}
+use Rattle.leaf_edit.proofs.EditFacts.{insert-spliced, insert-inserts}
+use Rattle.tree_insert.proofs.Spotting.{SpotIs}
+use Rattle.tree_insert.proofs.Cutting.{Sides, sides}
 use Rattle.theory_tree.proofs.Workers.{after}
 use Rattle.theory_tree.proofs.Contexts.{top-key, Ctx, plug, loC, hiC, parC, nxtC, place}
 use Rattle.theory_tree.proofs.Says.{LeafSays, leaf-says}

@@ -11,7 +11,6 @@ use lib.Dec.{eqb, eqb·zero-suc, eqb·suc-suc}
 use lib.ListN.{length, length-append}
 use borrow.Author.Tests.{lt-ltb, eqb-true, eqb-false}
 use Rattle.store.specs.Pick.{pick}
-use Rattle.store.proofs.PartLaws.{le-or-lt}
 use Rattle.page.specs.Page.{page}
 use Rattle.page.specs.Header.{cellCount}
 use Rattle.page.specs.declared.pool.State.{State}
@@ -24,12 +23,13 @@ use Rattle.tree_grow.specs.Plan.{fullPages, divisionOf, firstMoved, relinksIn, 
 use Rattle.tree_grow.specs.declared.plan.Division.{Division}
 use Rattle.tree_grow.specs.declared.plan.Links.{Links}
 use Rattle.tree_grow.specs.declared.plan.Plan.{Plan}
-use Rattle.tree_grow.proofs.Planning.{first-few}
 use Rattle.tree_room.specs.Room.{fitting, dividing, planned, leafPlan}
 use Rattle.tree_room.specs.declared.Planned.{Planned}
-use Rattle.tree_room.proofs.Rooming.{path-above}
 use Rattle.theory_tree.specs.View.{view}
-use Rattle.theory_tree.specs.Shape.{Shape, leaf, node, pair, pages, head, rest, first, All, WellFormed}
+use Rattle.theory_tree.specs.Shape.{Shape, leaf, node, pair, pagesIn, head, rest, first, All, WellFormed}
+use Rattle.store.proofs.PartLaws.{le-or-lt}
+use Rattle.tree_grow.proofs.Planning.{first-few}
+use Rattle.tree_room.proofs.Rooming.{path-above}
 use Rattle.theory_tree.proofs.Contexts.{Ctx, top, inL, inR, under, plug, preG, postG, parC, HoldsC, cut, Grown, up}
 use Rattle.theory_tree.proofs.Entries.{kids, path}
 use Rattle.theory_tree.proofs.Says.{InnerSays, inner-says, entries-length, entries-children}
@@ -84,7 +84,7 @@ module _ (P : ℕ → Type 0) (pg : List ℕ) (i : ℕ) (all : All P (childrenFr
 
 -- every page of the tree is in use, and so is every child of a page above the run
 module _ (used : ℕ) (s : List ℕ) (P N : ℕ) where
-  relinks-low : (old : ℕ) (c : Ctx) (t : Shape) → HoldsC (view s) P N c (head t) (rest t) (first t) → All (λ q. q < used) (pages (plug c t))
+  relinks-low : (old : ℕ) (c : Ctx) (t : Shape) → HoldsC (view s) P N c (head t) (rest t) (first t) → All (λ q. q < used) (pagesIn (plug c t))
       → All (λ q. q < used) (relinks old (path c) s)
   unfolding relinks view
   relinks-low old top t g b = tt
@@ -95,11 +95,11 @@ module _ (used : ℕ) (s : List ℕ) (P N : ℕ) where
       is : InnerSays (page p s) (parC P c) (g .0) (head t) (rest t)
       is = inner-says (page p s) (g .1)
 
-      here : All (λ q. q < used) (pages t ++ postG c)
-      here = all-right (λ q. q < used) (preG c) (p ∷ (pages t ++ postG c)) (rw (plug-pages c (node p t)) at b) .1
+      here : All (λ q. q < used) (pagesIn t ++ postG c)
+      here = all-right (λ q. q < used) (preG c) (p ∷ (pagesIn t ++ postG c)) (rw (plug-pages c (node p t)) at b) .1
 
       low : All (λ q. q < used) (kids (head t) (rest t))
-      low = subst (All (λ q. q < used)) (roots-is t) (roots-all (λ q. q < used) t (all-left (λ q. q < used) (pages t) (postG c) here))
+      low = subst (All (λ q. q < used)) (roots-is t) (roots-all (λ q. q < used) t (all-left (λ q. q < used) (pagesIn t) (postG c) here))
 
       by-count : (x : Bool) → eqb (cellCount (page p s)) 510 ≡ x → All (λ q. q < used) (relinks p (path c) s)
           → All (λ q. q < used) (pick x (relinksIn (placeIn old (page p s)) (keepsNumber p (path c)) (page p s) ++ relinks p (path c) s) [])

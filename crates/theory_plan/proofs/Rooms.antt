@@ -10,7 +10,6 @@ use lib.Dec.{eqb}
 use lib.ListN.{length}
 use borrow.Author.Tests.{eqb-true}
 use Rattle.store.specs.Pick.{pick}
-use Rattle.store.proofs.PartLaws.{le-or-lt}
 use Rattle.page.specs.declared.pool.State.{State}
 use Rattle.leaf.specs.Rows.{Row}
 use Rattle.leaf.specs.Place.{cutFits}
@@ -20,10 +19,11 @@ use Rattle.tree_grow.specs.Plan.{divisionOf, pagesAsked}
 use Rattle.tree_grow.specs.declared.plan.Division.{Division}
 use Rattle.tree_room.specs.Room.{dividing, roomOf}
 use Rattle.tree_room.specs.declared.Planned.{Planned}
-use Rattle.tree_room.proofs.Rooming.{room-deep}
-use Rattle.tree_room.proofs.Keeping.{room-is}
 use Rattle.theory_tree.specs.View.{view}
 use Rattle.theory_tree.specs.Shape.{leaf, pair, WellFormed}
+use Rattle.store.proofs.PartLaws.{le-or-lt}
+use Rattle.tree_room.proofs.Rooming.{room-deep}
+use Rattle.tree_room.proofs.Keeping.{room-is}
 use Rattle.theory_tree.proofs.Contexts.{Ctx, plug, high, Grown, up}
 use Rattle.theory_tree.proofs.Entries.{path}
 use Rattle.theory_plan.proofs.Paths.{path-length, high-few}

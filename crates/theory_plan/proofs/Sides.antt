@@ -9,11 +9,11 @@ use lib.Seq.{length-take-le}
 use Rattle.store.specs.Le.{AreBytes}
 use Rattle.row.specs.Read.{cellAt}
 use Rattle.row.specs.declared.Cell.{Cell}
-use Rattle.row.proofs.Exact.{cell-placed}
 use Rattle.leaf.specs.Rows.{Row, AllFit, rowOf, rowSize, rowsBytes}
 use Rattle.leaf.specs.Place.{cutOf, sizesOf, cutFits}
-use Rattle.leaf.specs.CutFacts.{sum, Between, Chosen}
+use Rattle.leaf.specs.CutFacts.{sum, Between, BestCut}
 use Rattle.leaf.specs.declared.place.Cut.{Cut}
+use Rattle.row.proofs.Exact.{cell-placed}
 use Rattle.leaf.proofs.Rowing.{length-rows, rows-append}
 use Rattle.leaf.proofs.Chain.{Chain}
 use Rattle.leaf.proofs.CutFacts.{cut-is-best}
@@ -98,10 +98,10 @@ rows-cut rs t cut fit size over is fits = by-rest (drop i rs) refl
     all-is : t ≡ sum (rowSizes rs)
     all-is = size ∙ sym (sizes-bytes rs)
 
-    chosen : Chosen (rowSizes rs) cut
+    chosen : BestCut (rowSizes rs) cut
     chosen =
         let b = sizes-between rs fit in
-        subst (Chosen (rowSizes rs)) (sym (is ∙ ap (λ (n : ℕ). cutOf n (rowSizes rs)) all-is))
+        subst (BestCut (rowSizes rs)) (sym (is ∙ ap (λ (n : ℕ). cutOf n (rowSizes rs)) all-is))
         (cut-is-best (rowSizes rs) 4084 (two-rows (rowSizes rs) b (omega (arith, all-is))) (some-each (rowSizes rs) b))
 
     inside : i < length rs

@@ -12,36 +12,37 @@ use Rattle.store.specs.Le.{AreBytes}
 use Rattle.store.specs.Part.{part}
 use Rattle.page.specs.Page.{page}
 use Rattle.page.specs.Header.{cellCount}
-use Rattle.page.proofs.PageLaws.{length-page}
 use Rattle.row.specs.Read.{cellAt}
 use Rattle.row.specs.declared.Cell.{Cell}
-use Rattle.row.proofs.Writing.{stamp-len}
-use Rattle.row.proofs.Exact.{cell-placed}
 use Rattle.leaf.specs.Cells.{cells}
 use Rattle.leaf.specs.Rows.{Row, RowFits, AllFit, rowOf, rows, rowSize, rowsBytes, writeRows}
 use Rattle.leaf.specs.RowFacts.{Sound}
 use Rattle.leaf.specs.CutFacts.{sum}
 use Rattle.leaf.specs.Place.{cutOf, cutLeaf, cutFits}
+use Rattle.leaf_edit.specs.Edit.{withStamp}
+use Rattle.leaf_edit.specs.EditFacts.{stampRow}
+use Rattle.tree_stamp.specs.Target.{targetOf}
+use Rattle.tree_stamp.specs.Steps.Target.{CellMet}
+use Rattle.tree_stamp.specs.Stamp.{longer, bytesStamped, cutStamped, splicedStamp}
+use Rattle.tree_stamp.specs.declared.Target.{Target}
+use Rattle.theory_tree.specs.Shape.{KeysIn, NotAfter, Sorted}
+use Rattle.page.proofs.PageLaws.{length-page}
+use Rattle.row.proofs.Writing.{stamp-len}
+use Rattle.row.proofs.Exact.{cell-placed}
 use Rattle.leaf.proofs.Bytes.{bytes-page}
 use Rattle.leaf.proofs.Rowing.{endOf, length-rows, rows-append}
 use Rattle.leaf.proofs.Chain.{Chain, chain-cells, chain-back, chain-right, split-at}
 use Rattle.leaf.proofs.RowFacts.{rows-fill}
 use Rattle.leaf.proofs.CutFacts.{stamp-divides}
 use Rattle.leaf.proofs.Choosing.{any-page}
-use Rattle.leaf_edit.specs.Edit.{withStamp}
-use Rattle.leaf_edit.specs.EditFacts.{stampRow}
 use Rattle.leaf_edit.proofs.Editing.{cell-ends}
 use Rattle.leaf_edit.proofs.EditFacts.{stamp-spliced, stamp-stamps}
-use Rattle.tree_stamp.specs.Target.{targetOf, Met}
-use Rattle.tree_stamp.specs.Stamp.{longer, bytesStamped, cutStamped, splicedStamp}
-use Rattle.tree_stamp.specs.declared.Target.{Target}
 use Rattle.tree_stamp.proofs.Meeting.{chain-front, beside-is}
-use Rattle.theory_tree.specs.Shape.{KeysIn, NotAfter, Sorted}
 use Rattle.theory_tree.proofs.Lists.{all-app, all-left, all-right}
 use Rattle.theory_plan.proofs.Sides.{rowSizes, sizes-bytes, sizes-between, cell-sizes, fit-left, fit-right, fit-append, RowsCut, rows-cut}
 
 -- the leaf of what a lookup found is sound
-pub met-sound : (used p : ℕ) (c : Cell) (s : List ℕ) → AreBytes s → used * 4096 ≤ length s → (m : Met used p c s) → Sound (page p s) (m .end)
+pub met-sound : (used p : ℕ) (c : Cell) (s : List ℕ) → AreBytes s → used * 4096 ≤ length s → (m : CellMet used p c s) → Sound (page p s) (m .end)
 met-sound used p c s B room m =
     let low = m .in-use in
     record { bytes = bytes-page p s B; whole = length-page p s (omega arith); judged = any-page p 0 (m .end) (page p s) (m .judged) }

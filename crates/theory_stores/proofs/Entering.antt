@@ -13,23 +13,23 @@ use lib.Seq.{drop-cons}
 use Rattle.store.specs.Pick.{pick}
 use Rattle.store.specs.Le.{leAt, putAt}
 use Rattle.store.specs.Part.{part, pad, zeros}
-use Rattle.store.proofs.LeLaws.{length-putAt, leAt-putAt, leAt-putAt-below, leAt-putAt-above}
-use Rattle.store.proofs.PartLaws.{length-part, leAt-part, leAt-same}
-use Rattle.store.proofs.SeamLaws.{length-pad, part-pad}
 use Rattle.page.specs.Header.{nodeType, parentOf, cellCount, nextLeaf, withNodeType, withIsRoot, withParent, withCount}
 use Rattle.page.specs.Key.{flip}
-use Rattle.page.proofs.KeyLaws.{flip-flip, flip-less}
 use Rattle.inner.specs.Inner.{keyAt, childAt, keysFrom, childrenFrom, keysOf, childrenOf}
 use Rattle.inner.specs.Route.{firstWhere, childPlace}
-use Rattle.inner_edit.specs.Edit.{entered, withEntry, leftHalf, middleKey, rightHalf, topOf}
+use Rattle.inner_edit.specs.Edit.{entered, withEntry, leftHalf, middleKey, rightHalf, topPage}
 use Rattle.inner_edit.specs.Facts.{insertAt, IsPage}
-use Rattle.inner_edit.proofs.Editing.{length-entered, entered-before}
-use Rattle.inner_edit.proofs.Dividing.{length-left, length-right}
-use Rattle.inner_edit.proofs.Facts.{entry-enters, halves-divide}
 use Rattle.tree_grow.specs.Grow.{placeIn, topIn}
 use Rattle.theory_tree.specs.Pages.{innerPage}
 use Rattle.theory_tree.specs.View.{entriesOf, said}
 use Rattle.theory_tree.specs.Shape.{All}
+use Rattle.store.proofs.LeLaws.{length-putAt, leAt-putAt, leAt-putAt-below, leAt-putAt-above}
+use Rattle.store.proofs.PartLaws.{length-part, leAt-part, leAt-same}
+use Rattle.store.proofs.SeamLaws.{length-pad, part-pad}
+use Rattle.page.proofs.KeyLaws.{flip-flip, flip-less}
+use Rattle.inner_edit.proofs.Editing.{length-entered, entered-before}
+use Rattle.inner_edit.proofs.Dividing.{length-left, length-right}
+use Rattle.inner_edit.proofs.Facts.{entry-enters, halves-divide}
 use Rattle.theory_tree.proofs.Entries.{insAfter, kids}
 use Rattle.theory_tree.proofs.Enter.{has, ins-length}
 use Rattle.theory_tree.proofs.Says.{InnerSays, inner-said, entries-length, entries-of, kids-of}
@@ -275,54 +275,54 @@ module _ (left sep right : ℕ) (z : List ℕ) (len : length z ≡ 4096) where
   abbrev three : List ℕ
   three = putAt 4 two 16 (flip sep)
 
-  pub top-long : length (topOf left sep right z) ≡ 4096
-  unfolding topOf
+  pub top-long : length (topPage left sep right z) ≡ 4096
+  unfolding topPage
   top-long = rw (length-putAt, length-putAt, length-putAt, length-putAt, length-putAt) len
 
   one-long : length one ≡ 4096
   one-long = rw (length-putAt, length-putAt) len
 
   -- fields before the children
-  top-header : (w b : ℕ) → b + w ≤ 12 → leAt w (topOf left sep right z) b ≡ leAt w one b
-  unfolding topOf
+  top-header : (w b : ℕ) → b + w ≤ 12 → leAt w (topPage left sep right z) b ≡ leAt w one b
+  unfolding topPage
   top-header w b h =
       leAt-putAt-below w 4 three 20 right b (omega arith) ∙ leAt-putAt-below w 4 two 16 (flip sep) b (omega arith) ∙ leAt-putAt-below w 4 one 12 left b (omega arith)
 
-  top-type : nodeType (topOf left sep right z) ≡ nodeType z
+  top-type : nodeType (topPage left sep right z) ≡ nodeType z
   top-type = top-header 1 0 (omega arith) ∙ leAt-putAt-below 1 2 (withIsRoot 1 z) 6 1 0 (omega arith) ∙ leAt-putAt-below 1 1 z 1 1 0 (omega arith)
 
-  top-parent : parentOf (topOf left sep right z) ≡ parentOf z
+  top-parent : parentOf (topPage left sep right z) ≡ parentOf z
   top-parent = top-header 4 2 (omega arith) ∙ leAt-putAt-below 4 2 (withIsRoot 1 z) 6 1 2 (omega arith) ∙ leAt-putAt-above 4 1 z 1 1 2 (omega arith)
 
-  top-next : nextLeaf (topOf left sep right z) ≡ nextLeaf z
+  top-next : nextLeaf (topPage left sep right z) ≡ nextLeaf z
   top-next = top-header 4 8 (omega arith) ∙ leAt-putAt-above 4 2 (withIsRoot 1 z) 6 1 8 (omega arith) ∙ leAt-putAt-above 4 1 z 1 1 8 (omega arith)
 
-  top-count : cellCount (topOf left sep right z) ≡ 1
+  top-count : cellCount (topPage left sep right z) ≡ 1
   top-count = top-header 2 6 (omega arith) ∙ leAt-putAt 2 (withIsRoot 1 z) 6 1 (rw length-putAt (omega arith)) (omega arith)
 
-  top-key : sep < 4294967296 → keyAt (topOf left sep right z) 0 ≡ sep
-  unfolding topOf keyAt
+  top-key : sep < 4294967296 → keyAt (topPage left sep right z) 0 ≡ sep
+  unfolding topPage keyAt
   top-key s =
       let l : length two ≡ 4096 = length-putAt 4 one 12 left ∙ one-long in
       ap flip (leAt-putAt-below 4 4 three 20 right 16 (omega arith) ∙ leAt-putAt 4 two 16 (flip sep) (omega arith) (flip-less sep)) ∙ flip-flip sep s
 
-  top-left : left < 4294967296 → childAt (topOf left sep right z) 0 ≡ left
-  unfolding topOf childAt
+  top-left : left < 4294967296 → childAt (topPage left sep right z) 0 ≡ left
+  unfolding topPage childAt
   top-left l =
       leAt-putAt-below 4 4 three 20 right 12 (omega arith)
       ∙ leAt-putAt-below 4 4 two 16 (flip sep) 12 (omega arith)
       ∙ leAt-putAt 4 one 12 left (omega (arith, one-long)) l
 
-  top-right : right < 4294967296 → childAt (topOf left sep right z) 1 ≡ right
-  unfolding topOf childAt
+  top-right : right < 4294967296 → childAt (topPage left sep right z) 1 ≡ right
+  unfolding topPage childAt
   top-right r = leAt-putAt 4 three 20 right (rw (length-putAt, length-putAt) (omega (arith, one-long))) r
 
   pub said-over : nodeType z ≡ 0 → left < 4294967296 → sep < 4294967296 → right < 4294967296
-      → said (topOf left sep right z) ≡ innerPage (parentOf z) (nextLeaf z) left ((sep, right) ∷ [])
+      → said (topPage left sep right z) ≡ innerPage (parentOf z) (nextLeaf z) left ((sep, right) ∷ [])
   unfolding keysFrom childrenFrom
   said-over type l s r =
       let count = top-count in
-      inner-made (topOf left sep right z) (parentOf z) (nextLeaf z) left ((sep, right) ∷ []) (top-type ∙ type) top-parent top-next
+      inner-made (topPage left sep right z) (parentOf z) (nextLeaf z) left ((sep, right) ∷ []) (top-type ∙ type) top-parent top-next
       (omega arith)
       (omega arith)
       (rw (count, top-key s))
@@ -330,7 +330,7 @@ module _ (left sep right : ℕ) (z : List ℕ) (len : length z ≡ 4096) where
 
 -- in a page of zeros
 pub said-top : (left sep right : ℕ) → left < 4294967296 → sep < 4294967296 → right < 4294967296
-    → said (topOf left sep right (zeros 4096)) ≡ innerPage 0 0 left ((sep, right) ∷ [])
+    → said (topPage left sep right (zeros 4096)) ≡ innerPage 0 0 left ((sep, right) ∷ [])
 said-top left sep right l s r =
     said-over left sep right (zeros 4096) (length-replicate {A = ℕ} 4096 0) (zero-number 1 4096 0) l s r ∙ rw (zero-number 4 4096 2, zero-number 4 4096 8)
 

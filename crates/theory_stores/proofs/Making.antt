@@ -6,10 +6,10 @@ use native.Mathlib.Omega.{arith}
 use lib.ListN.{length, length-append}
 use Rattle.store.specs.Le.{leAt}
 use Rattle.store.specs.Part.{part, pad}
+use Rattle.page.specs.Header.{cellCount, withCount}
 use Rattle.store.proofs.LeLaws.{length-putAt, leAt-putAt, leAt-putAt-below, leAt-putAt-above}
 use Rattle.store.proofs.PartLaws.{length-part, leAt-same, part-part}
 use Rattle.store.proofs.SeamLaws.{part-left, length-pad, part-pad}
-use Rattle.page.specs.Header.{cellCount, withCount}
 
 module _ (count : ℕ) (x : List ℕ) (fits : length x ≤ 4096) where
   pub made-long : length (withCount count (pad 4096 x)) ≡ 4096

@@ -6,20 +6,20 @@ use native.Mathlib.Omega.{arith}
 use lib.ListN.{length, length-replicate}
 use Rattle.store.specs.Le.{AreBytes}
 use Rattle.store.specs.Part.{part, zeros}
-use Rattle.store.proofs.LeLaws.{length-putAt, leAt-lt, leAt-putAt, leAt-putAt-above}
 use Rattle.page.specs.Page.{page, setPage}
 use Rattle.page.specs.Header.{nodeType, parentOf, cellCount, nextLeaf, withNodeType, withNextLeaf}
-use Rattle.page.proofs.PageLaws.{length-page, length-setPage}
 use Rattle.leaf.specs.Rows.{Row, AllFit, rowsBytes, writeRows}
 use Rattle.leaf.specs.declared.place.Cut.{Cut}
+use Rattle.leaf_divide.specs.Divide.{leftLeaf, rightLeaf, divided}
+use Rattle.tree_grow.specs.Steps.Safe.{There}
+use Rattle.theory_tree.specs.Pages.{Page, Pages, leafPage, withPage}
+use Rattle.theory_tree.specs.View.{said, view}
+use Rattle.store.proofs.LeLaws.{length-putAt, leAt-lt, leAt-putAt, leAt-putAt-above}
+use Rattle.page.proofs.PageLaws.{length-page, length-setPage}
 use Rattle.leaf.proofs.Bytes.{bytes-page}
 use Rattle.leaf.proofs.Rowing.{length-rows}
 use Rattle.leaf.proofs.RowFacts.{rows-are-read}
-use Rattle.leaf_divide.specs.Divide.{leftLeaf, rightLeaf, divided}
 use Rattle.leaf_divide.proofs.DivideFacts.{divide-divides}
-use Rattle.tree_grow.specs.Safe.{There}
-use Rattle.theory_tree.specs.Pages.{Page, Pages, leafPage, withPage}
-use Rattle.theory_tree.specs.View.{said, view}
 use Rattle.theory_tree.proofs.Says.{leaf-said, leaf-says}
 use Rattle.theory_stores.proofs.Keeping.{zero-number, bytes-append, bytes-field, bytes-part, bytes-pad, bytes-set-page}
 use Rattle.theory_stores.proofs.Making.{made-long, made-count, made-below, length-headed, headed-field}

@@ -9,28 +9,28 @@ use lib.Dec.{eqb}
 use lib.ListN.{length, drop, take, getD, length-drop, length-replicate}
 use Rattle.store.specs.Le.{AreBytes}
 use Rattle.store.specs.Part.{part, pad, zeros}
-use Rattle.store.proofs.LeLaws.{length-putAt, leAt-lt, leAt-putAt-above}
 use Rattle.page.specs.Page.{page, setPage}
 use Rattle.page.specs.Header.{cellCount, nextLeaf, withNodeType, withIsRoot, withParent}
 use Rattle.page.specs.Key.{flip, keyBytes}
 use Rattle.page.specs.Pool.{nextPage, withFresh}
 use Rattle.page.specs.declared.pool.State.{State}
+use Rattle.inner.specs.Inner.{keyAt, childAt, childrenFrom}
+use Rattle.inner_edit.specs.Edit.{pairBytes, entered, withEntry, leftHalf, rightHalf, topPage, adopted}
+use Rattle.inner_edit.specs.Facts.{IsPage}
+use Rattle.tree_grow.specs.Grow.{Grown, linked, linkedBoth, topOver, placeIn, joinedTo, halved, relinked, topIn, pinOf}
+use Rattle.tree_grow.specs.Steps.Safe.{There, Free}
+use Rattle.theory_tree.specs.Pages.{Page, leafPage, innerPage, noPage, Pages, withPage}
+use Rattle.theory_tree.specs.Shape.{All}
+use Rattle.theory_tree.specs.View.{entriesFrom, said, view}
+use Rattle.store.proofs.LeLaws.{length-putAt, leAt-lt, leAt-putAt-above}
 use Rattle.page.proofs.KeyLaws.{flip-less}
 use Rattle.page.proofs.PageLaws.{length-page, length-setPage, page-setPage, page-setPage-other}
 use Rattle.leaf.proofs.Bytes.{bytes-page}
-use Rattle.inner.specs.Inner.{keyAt, childAt, childrenFrom}
-use Rattle.inner_edit.specs.Edit.{pairBytes, entered, withEntry, leftHalf, rightHalf, topOf, adopted}
-use Rattle.inner_edit.specs.Facts.{IsPage}
 use Rattle.inner_edit.proofs.Lists.{children-read, read-ext}
-use Rattle.tree_grow.specs.Grow.{Grown, linked, linkedBoth, topOver, placeIn, joinedTo, halved, relinked, topIn, pinOf}
-use Rattle.tree_grow.specs.Safe.{There, Free}
 use Rattle.tree_grow.proofs.Likeness.{like-linked, like-both}
 use Rattle.tree_grow.proofs.Halving.{left-long, right-long}
 use Rattle.tree_grow.proofs.Stepping.{fresh-long, fresh-here, fresh-other}
 use Rattle.tree_grow.proofs.Pinning.{relink-inner, relink-leaf}
-use Rattle.theory_tree.specs.Pages.{Page, leafPage, innerPage, noPage, Pages, withPage}
-use Rattle.theory_tree.specs.Shape.{All}
-use Rattle.theory_tree.specs.View.{entriesFrom, said, view}
 use Rattle.theory_tree.proofs.Workers.{setPar, reparent}
 use Rattle.theory_tree.proofs.Entries.{nextOf, insAfter, kids}
 use Rattle.theory_tree.proofs.Enter.{has, ins-length}
@@ -69,8 +69,8 @@ bytes-right i sep new pg fresh B Z =
     (bytes-pad 4096 _
     (bytes-append (part 0 12 fresh) _ (bytes-part 0 12 fresh Z) (bytes-part 2060 2044 (entered i sep new pg) (bytes-entered i sep new pg B))))
 
-bytes-top : (left sep right : ℕ) (pg : List ℕ) → AreBytes pg → AreBytes (topOf left sep right pg)
-unfolding topOf
+bytes-top : (left sep right : ℕ) (pg : List ℕ) → AreBytes pg → AreBytes (topPage left sep right pg)
+unfolding topPage
 bytes-top left sep right pg B =
     bytes-field 4 _ 20 right (bytes-field 4 _ 16 (flip sep) (bytes-field 4 _ 12 left (bytes-field 2 _ 6 1 (bytes-field 1 pg 1 1 B))))
 
@@ -292,7 +292,7 @@ module _ (p i old sep new : ℕ) (g : Grown) (par j h : ℕ) (r : List (ℕ × �
 module _ (old sep new : ℕ) (g : Grown) (free : Free g) (old-there : There old (g .pool)) (new-there : There new (g .pool))
     (old-fits : old < 4294967296) (sep-fits : sep < 4294967296) (new-fits : new < 4294967296) where
   abbrev top : List ℕ
-  top = topOf old sep new (zeros 4096)
+  top = topPage old sep new (zeros 4096)
 
   abbrev t₀ : List ℕ
   t₀ = withFresh (g .pool) (g .state)

@@ -7,18 +7,18 @@ use Prim.Native.Nat.{ℕ, zero, suc, _+_, _*_, _≤_}
 use native.Mathlib.Omega.{arith}
 use lib.ListN.{length, getD}
 use Rattle.store.specs.Le.{leAt, putAt}
-use Rattle.store.proofs.LeLaws.{leAt-ext, length-putAt, getD-putAt-above}
-use Rattle.store.proofs.PartLaws.{part-ext}
 use Rattle.page.specs.Header.{cellCount}
 use Rattle.row.specs.Read.{stampIn, pointerIn, pointerPlace, dataPlace, flagBad, headFault, dataFault, cellIn, payloadAt, cellAt}
 use Rattle.row.specs.declared.Cell.{Cell}
 use Rattle.row.specs.declared.read.CellRead.{CellRead}
-use Rattle.row.proofs.Reading.{places}
-use Rattle.row.proofs.Exact.{cell-placed}
 use Rattle.leaf.specs.Cells.{onCell, cellsOf}
 use Rattle.leaf.specs.Rows.{Row, rowOf, rowsOf, rows}
 use Rattle.inner.specs.Inner.{keyAt, childAt}
 use Rattle.theory_tree.specs.View.{entriesFrom, entriesOf}
+use Rattle.store.proofs.LeLaws.{leAt-ext, length-putAt, getD-putAt-above}
+use Rattle.store.proofs.PartLaws.{part-ext}
+use Rattle.row.proofs.Reading.{places}
+use Rattle.row.proofs.Exact.{cell-placed}
 
 -- x and y have the same bytes from a on
 pub record Tail (a : ℕ) (x y : List ℕ) : Type 0 where

@@ -9,20 +9,20 @@ use lib.Dec.{leb, eqb}
 use lib.ListN.{length, length-replicate}
 use Rattle.store.specs.Pick.{pick}
 use Rattle.store.specs.Part.{zeros}
-use Rattle.store.proofs.LeLaws.{length-putAt, leAt-putAt, leAt-putAt-below, leAt-putAt-above}
 use Rattle.page.specs.Page.{page, setPage}
 use Rattle.page.specs.Header.{nodeType, parentOf, cellCount, nextLeaf, withIsRoot, withParent, withNextLeaf}
 use Rattle.page.specs.Pool.{withFresh, nextPage}
 use Rattle.page.specs.declared.pool.State.{State}
-use Rattle.page.proofs.PageLaws.{length-page, page-setPage, page-setPage-other}
 use Rattle.leaf.specs.Rows.{Row, rows}
 use Rattle.inner.specs.Inner.{childAt}
 use Rattle.inner_edit.specs.Facts.{IsPage}
 use Rattle.tree_grow.specs.Grow.{linked, linkedBoth}
-use Rattle.tree_grow.specs.Safe.{There}
-use Rattle.tree_grow.proofs.Likeness.{like-linked, like-there}
+use Rattle.tree_grow.specs.Steps.Safe.{There}
 use Rattle.theory_tree.specs.Pages.{Page, leafPage, innerPage, noPage, Pages, withPage}
 use Rattle.theory_tree.specs.View.{entriesOf, said, view}
+use Rattle.store.proofs.LeLaws.{length-putAt, leAt-putAt, leAt-putAt-below, leAt-putAt-above}
+use Rattle.page.proofs.PageLaws.{length-page, page-setPage, page-setPage-other}
+use Rattle.tree_grow.proofs.Likeness.{like-linked, like-there}
 use Rattle.theory_tree.proofs.Workers.{setPar, reparent}
 use Rattle.theory_tree.proofs.Says.{leaf-said, leaf-says}
 use Rattle.theory_stores.proofs.Keeping.{zero-number}

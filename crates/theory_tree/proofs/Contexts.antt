@@ -3,12 +3,12 @@
 use mathlib.Core.Path.{_≡_}
 use Prim.Native.Nat.{ℕ, suc, _+_, _-_, _≤_}
 use Rattle.store.specs.Pick.{pick}
+use Rattle.leaf.specs.Rows.{Row}
+use Rattle.theory_tree.specs.Pages.{innerPage, Pages}
+use Rattle.theory_tree.specs.Shape.{Shape, leaf, node, pair, chain, pagesIn, head, rest, first, Holds, Deep, Bounded, Sized, LaterNotZero}
 use mathlib.Core.List.{List, [], _∷_, _++_}
 use lib.ListN.{length}
 use lib.Dec.{leb, ltb, eqb}
-use Rattle.leaf.specs.Rows.{Row}
-use Rattle.theory_tree.specs.Pages.{innerPage, Pages}
-use Rattle.theory_tree.specs.Shape.{Shape, leaf, node, pair, chain, pages, head, rest, first, Holds, Deep, Bounded, Sized, LaterNotZero}
 use Rattle.theory_tree.proofs.Workers.{after}
 
 pub data Ctx : Type 0 where
@@ -38,12 +38,12 @@ postC (under p c) = postC c
 abbrev pub preG : Ctx → List ℕ
 preG top = []
 preG (inL k b c) = preG c
-preG (inR a k c) = preG c ++ pages a
+preG (inR a k c) = preG c ++ pagesIn a
 preG (under p c) = preG c ++ (p ∷ [])
 
 abbrev pub postG : Ctx → List ℕ
 postG top = []
-postG (inL k b c) = pages b ++ postG c
+postG (inL k b c) = pagesIn b ++ postG c
 postG (inR a k c) = postG c
 postG (under p c) = postG c
 

@@ -3,6 +3,8 @@
 use mathlib.Core.Path.{_≡_, refl, sym, ap, _∙_, subst}
 use mathlib.Core.Bool.{Bool, true, false}
 use Rattle.store.specs.Pick.{pick}
+use Rattle.theory_tree.specs.Pages.{Pages}
+use Rattle.theory_tree.specs.Shape.{Shape, leaf, node, pair, chain, pagesIn, head, rest, first, Holds, Deep, Bounded, Sized, LaterNotZero}
 use mathlib.Core.List.{[], _∷_, _++_, append-assoc, append-nil}
 use Prim.Native.Nat.{ℕ, suc, _+_, _-_, _≤_, _<_}
 use native.Mathlib.Omega.{arith}
@@ -10,14 +12,12 @@ use native.Mathlib.Nat.{add-zero}
 use lib.ListN.{length, length-append}
 use lib.Dec.{eqb, leb, ltb}
 use borrow.Author.Tests.{leb-true, leb-false, ltb-true, ltb-false, eqb-true, eqb-false}
-use Rattle.theory_tree.specs.Pages.{Pages}
-use Rattle.theory_tree.specs.Shape.{Shape, leaf, node, pair, chain, pages, head, rest, first, Holds, Deep, Bounded, Sized, LaterNotZero}
 use Rattle.theory_tree.proofs.Contexts.{Ctx, top, inL, inR, under, plug, preC, postC, loC, hiC, BoundedC, Cut, cut, cutL, cutR, Grown, up, DeepC, SizedC, high, LaterNotZeroC}
 use Rattle.theory_tree.proofs.Zip.{plug-chain, plug-bnd}
 
 pub record Alike (s t : Shape) : Type 0 where
   pub chains : chain s ≡ chain t
-  pub pagess : pages s ≡ pages t
+  pub pagess : pagesIn s ≡ pagesIn t
   pub heads : head s ≡ head t
   pub rests : rest s ≡ rest t
   pub firsts : first s ≡ first t
@@ -86,7 +86,7 @@ alike-right a k b b′ e = record {
 pub rotate : (a : Shape) (k : ℕ) (b : Shape) (m : ℕ) (c : Shape) → Alike (pair (pair a k b) m c) (pair a k (pair b m c))
 rotate a k b m c = record {
   chains = append-assoc (chain a) (chain b) (chain c);
-  pagess = append-assoc (pages a) (pages b) (pages c);
+  pagess = append-assoc (pagesIn a) (pagesIn b) (pagesIn c);
   heads = refl;
   rests = append-assoc (rest a) ((k, head b) ∷ rest b) ((m, head c) ∷ rest c);
   firsts = refl;
@@ -100,7 +100,7 @@ rotate a k b m c = record {
 pub rotate′ : (a : Shape) (k : ℕ) (b : Shape) (m : ℕ) (c : Shape) → Alike (pair a k (pair b m c)) (pair (pair a k b) m c)
 rotate′ a k b m c = record {
   chains = sym (append-assoc (chain a) (chain b) (chain c));
-  pagess = sym (append-assoc (pages a) (pages b) (pages c));
+  pagess = sym (append-assoc (pagesIn a) (pagesIn b) (pagesIn c));
   heads = refl;
   rests = sym (append-assoc (rest a) ((k, head b) ∷ rest b) ((m, head c) ∷ rest c));
   firsts = refl;

@@ -3,6 +3,8 @@
 use mathlib.Core.Path.{_≡_, refl, sym, ap, _∙_, subst}
 use mathlib.Core.Bool.{Bool, true, false, _||_}
 use Rattle.store.specs.Pick.{pick}
+use Rattle.theory_tree.specs.Pages.{Page, innerPage, Pages, withPage}
+use Rattle.theory_tree.specs.Shape.{Shape, leaf, node, pair, pagesIn, head, rest, first, Holds, All, NoneTwice, IsTree}
 use mathlib.Core.List.{List, [], _∷_, _++_, append-assoc, append-nil, map-append, List·Memᴰ, List·Memᴰ·head, List·Memᴰ·tail, Memᴰ·append-left, Memᴰ·append-right}
 use Prim.Native.Nat.{ℕ, suc, _≤_, _<_}
 use native.Mathlib.Omega.{arith}
@@ -10,8 +12,6 @@ use lib.ListN.{length, length-append, take, drop, getD}
 use lib.Seq.{take-at, drop-at, getD-at}
 use lib.Dec.{eqb}
 use borrow.Author.Tests.{eq-eqb, ne-eqb, eqb-true, le-leb, lt-leb}
-use Rattle.theory_tree.specs.Pages.{Page, innerPage, Pages, withPage}
-use Rattle.theory_tree.specs.Shape.{Shape, leaf, node, pair, pages, head, rest, first, Holds, All, NoneTwice, IsTree}
 use Rattle.theory_tree.proofs.Workers.{setPar, roots, reparent}
 use Rattle.theory_tree.proofs.Contexts.{Ctx, top, inL, inR, under, plug, preG, postG, parC, nxtC, HoldsC, Cut, cut, up}
 use Rattle.theory_tree.proofs.Entries.{insAfter, kids}
@@ -24,12 +24,12 @@ pub repC-frame : (w v : Pages) (P N : ℕ) (c : Ctx) (h : ℕ) (r : List (ℕ ×
     → HoldsC w P N c h r l → HoldsC v P N c h r l
 repC-frame w v P N top h r l a b g = tt
 repC-frame w v P N (inL k t c) h r l a b g = (
-  frame w v (parC P c) (nxtC N c) t (all-left (λ p. v p ≡ w p) (pages t) (postG c) b) (g .0),
-  repC-frame w v P N c h (r ++ ((k, head t) ∷ rest t)) l a (all-right (λ p. v p ≡ w p) (pages t) (postG c) b) (g .1),
+  frame w v (parC P c) (nxtC N c) t (all-left (λ p. v p ≡ w p) (pagesIn t) (postG c) b) (g .0),
+  repC-frame w v P N c h (r ++ ((k, head t) ∷ rest t)) l a (all-right (λ p. v p ≡ w p) (pagesIn t) (postG c) b) (g .1),
 )
 repC-frame w v P N (inR t k c) h r l a b g = (
-  frame w v (parC P c) l t (all-right (λ p. v p ≡ w p) (preG c) (pages t) a) (g .0),
-  repC-frame w v P N c (head t) (rest t ++ ((k, h) ∷ r)) (first t) (all-left (λ p. v p ≡ w p) (preG c) (pages t) a) b (g .1),
+  frame w v (parC P c) l t (all-right (λ p. v p ≡ w p) (preG c) (pagesIn t) a) (g .0),
+  repC-frame w v P N c (head t) (rest t ++ ((k, h) ∷ r)) (first t) (all-left (λ p. v p ≡ w p) (preG c) (pagesIn t) a) b (g .1),
 )
 repC-frame w v P N (under p c) h r l a b g = (
   g .0,
@@ -86,7 +86,7 @@ pub record Ins (l : ℕ) (e : ℕ × ℕ) (s s′ : Shape) : Type 0 where
   pub firsts : first s′ ≡ first s
   pub rests : insAfter l e (head s) (rest s) ≡ rest s′
   pub child : has l (head s) (rest s) ≡ true
-  pub mine : List·Memᴰ l (pages s′)
+  pub mine : List·Memᴰ l (pagesIn s′)
 
 pub ins-inL : (l : ℕ) (e : ℕ × ℕ) (s s′ : Shape) (k : ℕ) (b : Shape) → Ins l e s s′ → Ins l e (pair s k b) (pair s′ k b)
 ins-inL l e s s′ k b i = record {
@@ -94,10 +94,10 @@ ins-inL l e s s′ k b i = record {
   firsts = i .firsts;
   rests = ins-left l e (head s) (rest s) ((k, head b) ∷ rest b) (i .child) ∙ rw (i .rests);
   child = has-left l (head s) (rest s) ((k, head b) ∷ rest b) (i .child);
-  mine = Memᴰ·append-left (pages b) (i .mine);
+  mine = Memᴰ·append-left (pagesIn b) (i .mine);
 }
 
-pub ins-inR : (l : ℕ) (e : ℕ × ℕ) (a : Shape) (k : ℕ) (s s′ : Shape) → Out l (pages a) → Ins l e s s′ → Ins l e (pair a k s) (pair a k s′)
+pub ins-inR : (l : ℕ) (e : ℕ × ℕ) (a : Shape) (k : ℕ) (s s′ : Shape) → Out l (pagesIn a) → Ins l e s s′ → Ins l e (pair a k s) (pair a k s′)
 ins-inR l e a k s s′ o i =
     let o′ : Out l (kids (head a) (rest a)) = rw roots-is at (roots-all (λ y. l ≡ y → ⊥) a o) in
     record {
@@ -105,7 +105,7 @@ ins-inR l e a k s s′ o i =
       firsts = refl;
       rests = ins-right l e (head a) (rest a) k (head s) (rest s) o′ ∙ rw (i .rests, i .heads);
       child = has-right l (head a) (rest a) k (head s) (rest s) o′ (i .child);
-      mine = Memᴰ·append-right (pages a) (i .mine);
+      mine = Memᴰ·append-right (pagesIn a) (i .mine);
     }
 
 -- the entry is one more child; it and l are among the children, and are two
@@ -137,13 +137,13 @@ ins-apart l e h (x ∷ r) q d z = go (eqb h l) refl d (ins-apart l e (x .1) r)
     go false eb m i = i (rw eb at q) (m .1) z
 
 -- no child twice, and each linked to the page above
-pub roots-distinct : (t : Shape) → NoneTwice (pages t) → NoneTwice (roots t)
+pub roots-distinct : (t : Shape) → NoneTwice (pagesIn t) → NoneTwice (roots t)
 roots-distinct (leaf p cs) d = d
 roots-distinct (node p f) d = (tt, tt)
 roots-distinct (pair a k b) d =
-    nd-join (roots a) (roots b) (roots-distinct a (nd-left (pages a) (pages b) d)) (roots-distinct b (nd-right (pages a) (pages b) d))
+    nd-join (roots a) (roots b) (roots-distinct a (nd-left (pagesIn a) (pagesIn b) d)) (roots-distinct b (nd-right (pagesIn a) (pagesIn b) d))
     (roots-all (λ x. Out x (roots b)) a
-    (all-map (λ x. Out x (pages b)) (λ x. Out x (roots b)) (λ x o. roots-all (λ y. x ≡ y → ⊥) b o) (pages a) (nd-apart (pages a) (pages b) d)))
+    (all-map (λ x. Out x (pagesIn b)) (λ x. Out x (roots b)) (λ x o. roots-all (λ y. x ≡ y → ⊥) b o) (pagesIn a) (nd-apart (pagesIn a) (pagesIn b) d)))
 
 pub roots-linked : (w : Pages) (par nxt : ℕ) (t : Shape) → Holds w par nxt t → All (λ q. w q ≡ setPar par (w q)) (roots t)
 roots-linked w par nxt (leaf p cs) h = (h ∙ sym (ap (setPar par) h), tt)
@@ -152,13 +152,13 @@ roots-linked w par nxt (pair a k b) h =
     all-app (λ q. w q ≡ setPar par (w q)) (roots a) (roots b) (roots-linked w par (first b) a (h .0)) (roots-linked w par nxt b (h .1))
 
 -- a new top over the run s
-pub grow-rep : (w : Pages) (N : ℕ) (s : Shape) (u : ℕ) → NoneTwice (pages s) → All (λ p. p < u) (pages s) → Holds w 0 N s
+pub grow-rep : (w : Pages) (N : ℕ) (s : Shape) (u : ℕ) → NoneTwice (pagesIn s) → All (λ p. p < u) (pagesIn s) → Holds w 0 N s
     → Holds (reparent u (roots s) (withPage w u (innerPage 0 0 (head s) (rest s)))) 0 N (node u s)
 grow-rep w N s u d b h =
     let x : Page = innerPage 0 0 (head s) (rest s) in
-    let o : Out u (pages s) = out-fresh u (pages s) b in
+    let o : Out u (pagesIn s) = out-fresh u (pagesIn s) b in
     let z : All (λ p. Out p (u ∷ [])) (roots s) =
-    roots-all (λ p. Out p (u ∷ [])) s (all-map (λ y. u ≡ y → ⊥) (λ p. Out p (u ∷ [])) (λ p n. ((λ q. n (sym q)), tt)) (pages s) o) in
+    roots-all (λ p. Out p (u ∷ [])) s (all-map (λ y. u ≡ y → ⊥) (λ p. Out p (u ∷ [])) (λ p n. ((λ q. n (sym q)), tt)) (pagesIn s) o) in
     (0, agree-reparent u (roots s) (u ∷ []) (withPage w u x) z .0 ∙ withPage-same w u x, adopt u (withPage w u x) 0 N s d (frame-withPage w u x 0 N s o h))
 
 -- the page p becomes p over l and u over r
@@ -175,10 +175,10 @@ pub record Halves (p u : ℕ) (s : Shape) (x : Cut) : Type 0 where
   pub other : p ≡ u → ⊥
   pub fresh : Out u (roots (x .right))
 
-pub halves : (p u : ℕ) (s : Shape) (x : Cut) → Half s x → p < u → All (λ q. q < u) (pages s) → Halves p u s x
+pub halves : (p u : ℕ) (s : Shape) (x : Cut) → Half s x → p < u → All (λ q. q < u) (pagesIn s) → Halves p u s x
 halves p u s x o pu b =
     let q : rest s ≡ rest (x .left) ++ ((x .mid, head (x .right)) ∷ rest (x .right)) = o .alike .rests in
-    let b′ : All (λ q. q < u) (pages (x .left) ++ pages (x .right)) = rw (o .alike .pagess) at b in
+    let b′ : All (λ q. q < u) (pagesIn (x .left) ++ pagesIn (x .right)) = rw (o .alike .pagess) at b in
     record {
       lefts = ap (take 255) q ∙ take-at (rest (x .left)) ((x .mid, head (x .right)) ∷ rest (x .right)) 255 (o .count);
       middle = ap (λ m. getD m 255 (0, 0)) q ∙ getD-at (rest (x .left)) (x .mid, head (x .right)) (rest (x .right)) (0, 0) 255 (o .count);
@@ -188,11 +188,11 @@ halves p u s x o pu b =
       heads = o .alike .heads;
       moving = roots-is (x .right);
       other = λ e. omega arith;
-      fresh = roots-all (λ q. u ≡ q → ⊥) (x .right) (out-fresh u (pages (x .right)) (all-right (λ q. q < u) (pages (x .left)) (pages (x .right)) b′));
+      fresh = roots-all (λ q. u ≡ q → ⊥) (x .right) (out-fresh u (pagesIn (x .right)) (all-right (λ q. q < u) (pagesIn (x .left)) (pagesIn (x .right)) b′));
     }
 
 module _ (w : Pages) (p u par j : ℕ) (l r : Shape) where
-  pub dv-agree : (z : List ℕ) → Out p z → Out u z → All (λ x. Out x z) (pages r) → Agree w (dv w p u par j l r) z
+  pub dv-agree : (z : List ℕ) → Out p z → Out u z → All (λ x. Out x z) (pagesIn r) → Agree w (dv w p u par j l r) z
   dv-agree z op ou or =
       let x : Page = innerPage par j (head l) (rest l) in
       let y : Page = innerPage par 0 (head r) (rest r) in
@@ -200,20 +200,20 @@ module _ (w : Pages) (p u par j : ℕ) (l r : Shape) where
       (agree-trans w (withPage w p x) (withPage (withPage w p x) u y) z (agree-withPage w p x z op) (agree-withPage (withPage w p x) u y z ou))
       (agree-reparent u (roots r) z (withPage (withPage w p x) u y) (roots-all (λ x. Out x z) r or))
 
-  pub dv-rep : (nxt m : ℕ) → (p ≡ u → ⊥) → Out p (pages l) → Out p (pages r) → Out u (pages l) → Out u (pages r)
-      → All (λ x. Out x (pages l)) (pages r) → NoneTwice (pages r)
+  pub dv-rep : (nxt m : ℕ) → (p ≡ u → ⊥) → Out p (pagesIn l) → Out p (pagesIn r) → Out u (pagesIn l) → Out u (pagesIn r)
+      → All (λ x. Out x (pagesIn l)) (pagesIn r) → NoneTwice (pagesIn r)
       → Holds w p (first r) l → Holds w p nxt r → Holds (dv w p u par j l r) par nxt (pair (node p l) m (node u r))
   dv-rep nxt m pu pl pr ul ur rl d hl hr =
       let x : Page = innerPage par j (head l) (rest l) in
       let y : Page = innerPage par 0 (head r) (rest r) in
       let v : Pages = withPage (withPage w p x) u y in
-      let one : (q : ℕ) → Out q (pages r) → Agree v (dv w p u par j l r) (q ∷ []) =
+      let one : (q : ℕ) → Out q (pagesIn r) → Agree v (dv w p u par j l r) (q ∷ []) =
       λ q o. agree-reparent u (roots r) (q ∷ []) v
-      (roots-all (λ x. Out x (q ∷ [])) r (all-map (λ z. q ≡ z → ⊥) (λ x. Out x (q ∷ [])) (λ z n. ((λ e. n (sym e)), tt)) (pages r) o)) in (
+      (roots-all (λ x. Out x (q ∷ [])) r (all-map (λ z. q ≡ z → ⊥) (λ x. Out x (q ∷ [])) (λ z n. ((λ e. n (sym e)), tt)) (pagesIn r) o)) in (
         (
           j,
           one p pr .0 ∙ withPage-other (withPage w p x) u p y (λ e. pu (sym e)) ∙ withPage-same w p x,
-          frame w (dv w p u par j l r) p (first r) l (dv-agree (pages l) pl ul rl) hl,
+          frame w (dv w p u par j l r) p (first r) l (dv-agree (pagesIn l) pl ul rl) hl,
         ),
         (
           0,
@@ -288,10 +288,10 @@ tree-rest (pair a k b) h = absurd h
 
 -- the page p has room
 pub room-rep : (N : ℕ) (c : Ctx) (w : Pages) (p j : ℕ) (s : Shape) → HoldsC w 0 N c p [] (first s) → Holds w p (nxtC N c) s
-    → NoneTwice (preG c ++ (p ∷ (pages s ++ postG c))) → Holds (withPage w p (innerPage (parC 0 c) j (head s) (rest s))) 0 N (plug c (node p s))
+    → NoneTwice (preG c ++ (p ∷ (pagesIn s ++ postG c))) → Holds (withPage w p (innerPage (parC 0 c) j (head s) (rest s))) 0 N (plug c (node p s))
 room-rep N c w p j s g h d =
     let x : Page = innerPage (parC 0 c) j (head s) (rest s) in
-    let m : Parts (preG c) p [] (pages s) (postG c) = parts (preG c) p [] (pages s) (postG c) d in
+    let m : Parts (preG c) p [] (pagesIn s) (postG c) = parts (preG c) p [] (pagesIn s) (postG c) d in
     plug-rep (withPage w p x) 0 N c (node p s)
     (repC-frame w (withPage w p x) 0 N c p [] (first s) (agree-withPage w p x (preG c) (m .pg)) (agree-withPage w p x (postG c) (m .po)) g)
     (j, withPage-same w p x, frame-withPage w p x p (nxtC N c) s (m .pr) h)
@@ -319,8 +319,8 @@ pub record Entry (N : ℕ) (c : Ctx) (w : Pages) (s s′ : Shape) (l : ℕ) (e :
   pub ins : Ins l e s s′
   pub above : HoldsC w 0 N c (head s) (rest s) (first s)
   pub here : Holds w (parC 0 c) (nxtC N c) s′
-  pub distinct : NoneTwice (preG c ++ (pages s′ ++ postG c))
-  pub below : All (λ p. p < u) (preG c ++ (pages s′ ++ postG c))
+  pub distinct : NoneTwice (preG c ++ (pagesIn s′ ++ postG c))
+  pub below : All (λ p. p < u) (preG c ++ (pagesIn s′ ++ postG c))
 
 module _ {N : ℕ} {c : Ctx} {w : Pages} {s s′ : Shape} {l : ℕ} {e : ℕ × ℕ} {u : ℕ} where
   pub entry-inL : {k : ℕ} {b : Shape} → Entry N (inL k b c) w s s′ l e u → Entry N c w (pair s k b) (pair s′ k b) l e u
@@ -329,24 +329,24 @@ module _ {N : ℕ} {c : Ctx} {w : Pages} {s s′ : Shape} {l : ℕ} {e : ℕ × 
     ins = ins-inL l e s s′ k b (f .ins);
     above = f .above .1;
     here = (f .here, f .above .0);
-    distinct = rw (append-assoc (pages s′) (pages b) (postG c)) (f .distinct);
-    below = rw (append-assoc (pages s′) (pages b) (postG c)) (f .below);
+    distinct = rw (append-assoc (pagesIn s′) (pagesIn b) (postG c)) (f .distinct);
+    below = rw (append-assoc (pagesIn s′) (pagesIn b) (postG c)) (f .below);
   }
 
   pub entry-inR : {a : Shape} {k : ℕ} → Entry N (inR a k c) w s s′ l e u → Entry N c w (pair a k s) (pair a k s′) l e u
   entry-inR {a} {k} f =
-      let d : NoneTwice (preG c ++ (pages a ++ (pages s′ ++ postG c))) = rw append-assoc at (f .distinct) in
-      let o : All (λ y. Out y (pages s′ ++ postG c)) (pages a) = nd-apart (pages a) (pages s′ ++ postG c) (nd-right (preG c) (pages a ++ (pages s′ ++ postG c)) d) in
-      let o′ : All (λ y. Out y (pages a)) (pages s′) =
-      out-flip (pages a) (pages s′) (all-map (λ y. Out y (pages s′ ++ postG c)) (λ y. Out y (pages s′))
-      (λ y m. all-left (λ z. y ≡ z → ⊥) (pages s′) (postG c) m) (pages a) o) in
+      let d : NoneTwice (preG c ++ (pagesIn a ++ (pagesIn s′ ++ postG c))) = rw append-assoc at (f .distinct) in
+      let o : All (λ y. Out y (pagesIn s′ ++ postG c)) (pagesIn a) = nd-apart (pagesIn a) (pagesIn s′ ++ postG c) (nd-right (preG c) (pagesIn a ++ (pagesIn s′ ++ postG c)) d) in
+      let o′ : All (λ y. Out y (pagesIn a)) (pagesIn s′) =
+      out-flip (pagesIn a) (pagesIn s′) (all-map (λ y. Out y (pagesIn s′ ++ postG c)) (λ y. Out y (pagesIn s′))
+      (λ y m. all-left (λ z. y ≡ z → ⊥) (pagesIn s′) (postG c) m) (pagesIn a) o) in
       record {
         tree = f .tree;
-        ins = ins-inR l e a k s s′ (mem-all (λ y. Out y (pages a)) l (pages s′) (f .ins .mine) o′) (f .ins);
+        ins = ins-inR l e a k s s′ (mem-all (λ y. Out y (pagesIn a)) l (pagesIn s′) (f .ins .mine) o′) (f .ins);
         above = f .above .1;
         here = (rw (f .ins .firsts) (f .above .0), f .here);
-        distinct = rw (append-assoc (pages a) (pages s′) (postG c)) d;
-        below = rw (append-assoc (pages a) (pages s′) (postG c)) (rw append-assoc at (f .below));
+        distinct = rw (append-assoc (pagesIn a) (pagesIn s′) (postG c)) d;
+        below = rw (append-assoc (pagesIn a) (pagesIn s′) (postG c)) (rw append-assoc at (f .below));
       }
 
 -- the page l and the page n entered behind it: two pages below u, both linked to q
@@ -385,8 +385,8 @@ module _ {N : ℕ} {c : Ctx} {w : Pages} {s s′ : Shape} {l : ℕ} {e : ℕ × 
   pub entry-both : Entry N c w s s′ l e u → Both w (parC 0 c) l (e .1) u
   entry-both f =
       let i : Ins l e s s′ = f .ins in
-      let d : NoneTwice (pages s′) = nd-left (pages s′) (postG c) (nd-right (preG c) (pages s′ ++ postG c) (f .distinct)) in
-      let b : All (λ q. q < u) (pages s′) = all-left (λ q. q < u) (pages s′) (postG c) (all-right (λ q. q < u) (preG c) (pages s′ ++ postG c) (f .below)) in
+      let d : NoneTwice (pagesIn s′) = nd-left (pagesIn s′) (postG c) (nd-right (preG c) (pagesIn s′ ++ postG c) (f .distinct)) in
+      let b : All (λ q. q < u) (pagesIn s′) = all-left (λ q. q < u) (pagesIn s′) (postG c) (all-right (λ q. q < u) (preG c) (pagesIn s′ ++ postG c) (f .below)) in
       let d′ : NoneTwice (kids (head s) (insAfter l e (head s) (rest s))) = rw (roots-is s′, i .heads, sym (i .rests)) at (roots-distinct s′ d) in
       let low : (l < u) × (e .1 < u) = ins-own (λ q. q < u) l e s s′ i (roots-all (λ q. q < u) s′ b) in
       let tied : (w l ≡ setPar (parC 0 c) (w l)) × (w (e .1) ≡ setPar (parC 0 c) (w (e .1))) =
@@ -401,15 +401,15 @@ module _ {N : ℕ} {c : Ctx} {w : Pages} {s s′ : Shape} {l : ℕ} {e : ℕ × 
 
 module _ {N : ℕ} {c : Ctx} {w : Pages} {s s′ : Shape} {l : ℕ} {e : ℕ × ℕ} {u p : ℕ} where
   -- p, the pages of the run and those behind it are below u
-  entry-below : Entry N (under p c) w s s′ l e u → (p < u) × All (λ q. q < u) (pages s′ ++ postG c)
+  entry-below : Entry N (under p c) w s s′ l e u → (p < u) × All (λ q. q < u) (pagesIn s′ ++ postG c)
   entry-below f =
-      let b : All (λ q. q < u) (preG c ++ (p ∷ (pages s′ ++ postG c))) = rw append-assoc at (f .below) in
-      all-right (λ q. q < u) (preG c) (p ∷ (pages s′ ++ postG c)) b
+      let b : All (λ q. q < u) (preG c ++ (p ∷ (pagesIn s′ ++ postG c))) = rw append-assoc at (f .below) in
+      all-right (λ q. q < u) (preG c) (p ∷ (pagesIn s′ ++ postG c)) b
 
   pub entry-page : Entry N (under p c) w s s′ l e u → OnPage c w s s′ l e u p
   entry-page f =
       let i : Ins l e s s′ = f .ins in
-      let o : Out p (pages s′) = parts (preG c) p [] (pages s′) (postG c) (rw append-assoc at (f .distinct)) .pr in
+      let o : Out p (pagesIn s′) = parts (preG c) p [] (pagesIn s′) (postG c) (rw append-assoc at (f .distinct)) .pr in
       let off : (p ≡ l → ⊥) × (p ≡ e .1 → ⊥) = ins-own (λ q. p ≡ q → ⊥) l e s s′ i (roots-all (λ q. p ≡ q → ⊥) s′ o) in
       record {
         next = f .above .0;
@@ -429,7 +429,7 @@ module _ {N : ℕ} {c : Ctx} {w : Pages} {s s′ : Shape} {l : ℕ} {e : ℕ × 
 
   pub entry-halves : Entry N (under p c) w s s′ l e u → 510 < length (rest s′) → Halves p u s′ (cut 255 s′)
   entry-halves f h = halves p u s′ (cut 255 s′) (half s′ (lt-leb (length (rest s′)) 510 h))
-      (entry-below f .0) (all-left (λ q. q < u) (pages s′) (postG c) (entry-below f .1))
+      (entry-below f .0) (all-left (λ q. q < u) (pagesIn s′) (postG c) (entry-below f .1))
 
   pub entry-half : (j : ℕ) → Entry N (under p c) w s s′ l e u → 510 < length (rest s′)
       → Entry N c (dv w p u (parC 0 c) j (cut 255 s′ .left) (cut 255 s′ .right)) (node p s)
@@ -439,16 +439,16 @@ module _ {N : ℕ} {c : Ctx} {w : Pages} {s s′ : Shape} {l : ℕ} {e : ℕ × 
       let x : Shape = cut 255 s′ .left in
       let y : Shape = cut 255 s′ .right in
       let v : Pages = dv w p u (parC 0 c) j x y in
-      let d : NoneTwice (preG c ++ (p ∷ (pages x ++ (pages y ++ postG c)))) = simp (o .alike .pagess, append-assoc) at (f .distinct) in
-      let b : All (λ p. p < u) (preG c ++ (p ∷ (pages x ++ (pages y ++ postG c)))) = simp (o .alike .pagess, append-assoc) at (f .below) in
-      let g : Out u (preG c ++ (p ∷ (pages x ++ (pages y ++ postG c)))) = out-fresh u (preG c ++ (p ∷ (pages x ++ (pages y ++ postG c)))) b in
-      let m : Parts (preG c) p (pages x) (pages y) (postG c) = parts (preG c) p (pages x) (pages y) (postG c) d in
-      let gg : Out u (preG c) = all-left (λ z. u ≡ z → ⊥) (preG c) (p ∷ (pages x ++ (pages y ++ postG c))) g in
-      let g₁ : Out u (p ∷ (pages x ++ (pages y ++ postG c))) = all-right (λ z. u ≡ z → ⊥) (preG c) (p ∷ (pages x ++ (pages y ++ postG c))) g in
-      let gx : Out u (pages x) = all-left (λ z. u ≡ z → ⊥) (pages x) (pages y ++ postG c) (g₁ .1) in
-      let g₂ : Out u (pages y ++ postG c) = all-right (λ z. u ≡ z → ⊥) (pages x) (pages y ++ postG c) (g₁ .1) in
-      let gy : Out u (pages y) = all-left (λ z. u ≡ z → ⊥) (pages y) (postG c) g₂ in
-      let go : Out u (postG c) = all-right (λ z. u ≡ z → ⊥) (pages y) (postG c) g₂ in
+      let d : NoneTwice (preG c ++ (p ∷ (pagesIn x ++ (pagesIn y ++ postG c)))) = simp (o .alike .pagess, append-assoc) at (f .distinct) in
+      let b : All (λ p. p < u) (preG c ++ (p ∷ (pagesIn x ++ (pagesIn y ++ postG c)))) = simp (o .alike .pagess, append-assoc) at (f .below) in
+      let g : Out u (preG c ++ (p ∷ (pagesIn x ++ (pagesIn y ++ postG c)))) = out-fresh u (preG c ++ (p ∷ (pagesIn x ++ (pagesIn y ++ postG c)))) b in
+      let m : Parts (preG c) p (pagesIn x) (pagesIn y) (postG c) = parts (preG c) p (pagesIn x) (pagesIn y) (postG c) d in
+      let gg : Out u (preG c) = all-left (λ z. u ≡ z → ⊥) (preG c) (p ∷ (pagesIn x ++ (pagesIn y ++ postG c))) g in
+      let g₁ : Out u (p ∷ (pagesIn x ++ (pagesIn y ++ postG c))) = all-right (λ z. u ≡ z → ⊥) (preG c) (p ∷ (pagesIn x ++ (pagesIn y ++ postG c))) g in
+      let gx : Out u (pagesIn x) = all-left (λ z. u ≡ z → ⊥) (pagesIn x) (pagesIn y ++ postG c) (g₁ .1) in
+      let g₂ : Out u (pagesIn y ++ postG c) = all-right (λ z. u ≡ z → ⊥) (pagesIn x) (pagesIn y ++ postG c) (g₁ .1) in
+      let gy : Out u (pagesIn y) = all-left (λ z. u ≡ z → ⊥) (pagesIn y) (postG c) g₂ in
+      let go : Out u (postG c) = all-right (λ z. u ≡ z → ⊥) (pagesIn y) (postG c) g₂ in
       let hs : Holds w p (first y) x × Holds w p (nxtC N c) y = o .alike .reps w p (nxtC N c) (f .here) in
       record {
         tree = f .tree;
@@ -456,8 +456,8 @@ module _ {N : ℕ} {c : Ctx} {w : Pages} {s s′ : Shape} {l : ℕ} {e : ℕ × 
         above = repC-frame w v 0 N c p [] (first s) (dv-agree w p u (parC 0 c) j x y (preG c) (m .pg) gg (m .rg))
             (dv-agree w p u (parC 0 c) j x y (postG c) (m .po) go (m .ro)) (f .above .2);
         here = dv-rep w p u (parC 0 c) j x y (nxtC N c) (cut 255 s′ .mid) (λ z. g₁ .0 (sym z)) (m .pl) (m .pr) gx gy (m .rl) (m .dr) (hs .0) (hs .1);
-        distinct = nd-seam (preG c) p (pages x) u (pages y) (postG c) d g;
-        below = all-seam (λ p. p < suc u) (preG c) p (pages x) u (pages y) (postG c) (below-more u (preG c ++ (p ∷ (pages x ++ (pages y ++ postG c)))) b) (omega arith);
+        distinct = nd-seam (preG c) p (pagesIn x) u (pagesIn y) (postG c) d g;
+        below = all-seam (λ p. p < suc u) (preG c) p (pagesIn x) u (pagesIn y) (postG c) (below-more u (preG c ++ (p ∷ (pagesIn x ++ (pagesIn y ++ postG c)))) b) (omega arith);
       }
 
 module _ {N : ℕ} {w : Pages} {s s′ : Shape} {l : ℕ} {e : ℕ × ℕ} {u : ℕ} where

@@ -2,9 +2,9 @@
 -- Assumes nothing.
 use Prim.Native.Nat.{ℕ}
 use Rattle.store.specs.Pick.{pick}
+use Rattle.theory_tree.specs.Pages.{Page, leafPage, innerPage, noPage}
 use mathlib.Core.List.{List, [], _∷_, map}
 use lib.Dec.{eqb}
-use Rattle.theory_tree.specs.Pages.{Page, leafPage, innerPage, noPage}
 use Rattle.theory_tree.proofs.Contexts.{Ctx, top, inL, inR, under}
 
 abbrev pub parOf : Page → ℕ

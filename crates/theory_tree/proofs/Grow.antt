@@ -3,13 +3,13 @@
 use mathlib.Core.Path.{_≡_, refl, sym, _∙_, subst}
 use mathlib.Core.Bool.{Bool, true, false}
 use Rattle.store.specs.Pick.{pick}
+use Rattle.theory_tree.specs.Shape.{Shape, node, pair, pagesIn, rest, Deep, All, NoneTwice, IsTree}
 use mathlib.Core.List.{List, [], _∷_, _++_, append-assoc, append-nil}
 use Prim.Native.Nat.{ℕ, suc, _+_, _<_}
 use native.Mathlib.Omega.{arith}
 use native.Mathlib.Nat.{add-zero}
 use lib.ListN.{length}
 use lib.Dec.{leb}
-use Rattle.theory_tree.specs.Shape.{Shape, node, pair, pages, rest, Deep, All, NoneTwice, IsTree}
 use Rattle.theory_tree.proofs.Contexts.{Ctx, top, inL, inR, under, plug, preG, postG, DeepC, high, cut, Grown, up}
 use Rattle.theory_tree.proofs.Lists.{out-fresh}
 use Rattle.theory_tree.proofs.Zip.{plug-pages}
@@ -17,17 +17,17 @@ use Rattle.theory_tree.proofs.Cuts.{Half, half, plug-lvl}
 use Rattle.theory_tree.proofs.Enter.{nd-seam, all-seam, below-more}
 
 pub record Fresh (s : Shape) (u : ℕ) : Type 0 where
-  pub distinct : NoneTwice (pages s)
-  pub below : All (λ p. p < u) (pages s)
+  pub distinct : NoneTwice (pagesIn s)
+  pub below : All (λ p. p < u) (pagesIn s)
 
-pub up-fresh : (c : Ctx) (s : Shape) (u : ℕ) → NoneTwice (preG c ++ (pages s ++ postG c)) → All (λ p. p < u) (preG c ++ (pages s ++ postG c))
+pub up-fresh : (c : Ctx) (s : Shape) (u : ℕ) → NoneTwice (preG c ++ (pagesIn s ++ postG c)) → All (λ p. p < u) (preG c ++ (pagesIn s ++ postG c))
     → Fresh (up c s u .shape) (up c s u .used)
 up-fresh top s u d b =
-    let b′ : All (λ p. p < u) (pages s) = rw append-nil at b in
-    record { distinct = (out-fresh u (pages s) b′, rw append-nil at d); below = (omega arith, below-more u (pages s) b′) }
-up-fresh (inL k y c) s u d b = up-fresh c (pair s k y) u (rw (append-assoc (pages s) (pages y) (postG c)) d) (rw (append-assoc (pages s) (pages y) (postG c)) b)
+    let b′ : All (λ p. p < u) (pagesIn s) = rw append-nil at b in
+    record { distinct = (out-fresh u (pagesIn s) b′, rw append-nil at d); below = (omega arith, below-more u (pagesIn s) b′) }
+up-fresh (inL k y c) s u d b = up-fresh c (pair s k y) u (rw (append-assoc (pagesIn s) (pagesIn y) (postG c)) d) (rw (append-assoc (pagesIn s) (pagesIn y) (postG c)) b)
 up-fresh (inR x k c) s u d b =
-    up-fresh c (pair x k s) u (rw (append-assoc (pages x) (pages s) (postG c)) (rw append-assoc at d)) (rw (append-assoc (pages x) (pages s) (postG c)) (rw append-assoc at b))
+    up-fresh c (pair x k s) u (rw (append-assoc (pagesIn x) (pagesIn s) (postG c)) (rw append-assoc at d)) (rw (append-assoc (pagesIn x) (pagesIn s) (postG c)) (rw append-assoc at b))
 up-fresh (under p c) s u d b =
     go (leb (length (rest s)) 510) refl (up-fresh c (pair (node p (cut 255 s .left)) (cut 255 s .mid) (node u (cut 255 s .right))) (suc u))
   where
@@ -35,8 +35,8 @@ up-fresh (under p c) s u d b =
     more = up c (pair (node p (cut 255 s .left)) (cut 255 s .mid) (node u (cut 255 s .right))) (suc u)
 
     go : (x : Bool) → leb (length (rest s)) 510 ≡ x
-        → (NoneTwice (preG c ++ (((p ∷ pages (cut 255 s .left)) ++ (u ∷ pages (cut 255 s .right))) ++ postG c))
-        → All (λ p. p < suc u) (preG c ++ (((p ∷ pages (cut 255 s .left)) ++ (u ∷ pages (cut 255 s .right))) ++ postG c)) → Fresh (more .shape) (more .used))
+        → (NoneTwice (preG c ++ (((p ∷ pagesIn (cut 255 s .left)) ++ (u ∷ pagesIn (cut 255 s .right))) ++ postG c))
+        → All (λ p. p < suc u) (preG c ++ (((p ∷ pagesIn (cut 255 s .left)) ++ (u ∷ pagesIn (cut 255 s .right))) ++ postG c)) → Fresh (more .shape) (more .used))
         → Fresh (pick x (record { shape = plug c (node p s); used = u; grew = 0 }) more .shape)
         (pick x (record { shape = plug c (node p s); used = u; grew = 0 }) more .used)
     go true q i = record { distinct = rw (plug-pages c (node p s)) (rw append-assoc at d); below = rw (plug-pages c (node p s)) (rw append-assoc at b) }
@@ -44,11 +44,11 @@ up-fresh (under p c) s u d b =
         let o : Half s (cut 255 s) = half s q in
         let x : Shape = cut 255 s .left in
         let y : Shape = cut 255 s .right in
-        let d₁ : NoneTwice (preG c ++ (p ∷ (pages x ++ (pages y ++ postG c)))) = simp (o .alike .pagess, append-assoc) at d in
-        let b₁ : All (λ p. p < u) (preG c ++ (p ∷ (pages x ++ (pages y ++ postG c)))) = simp (o .alike .pagess, append-assoc) at b in
-        let l : List ℕ = preG c ++ (p ∷ (pages x ++ (pages y ++ postG c))) in
-        i (nd-seam (preG c) p (pages x) u (pages y) (postG c) d₁ (out-fresh u l b₁))
-        (all-seam (λ p. p < suc u) (preG c) p (pages x) u (pages y) (postG c) (below-more u l b₁) (omega arith))
+        let d₁ : NoneTwice (preG c ++ (p ∷ (pagesIn x ++ (pagesIn y ++ postG c)))) = simp (o .alike .pagess, append-assoc) at d in
+        let b₁ : All (λ p. p < u) (preG c ++ (p ∷ (pagesIn x ++ (pagesIn y ++ postG c)))) = simp (o .alike .pagess, append-assoc) at b in
+        let l : List ℕ = preG c ++ (p ∷ (pagesIn x ++ (pagesIn y ++ postG c))) in
+        i (nd-seam (preG c) p (pagesIn x) u (pagesIn y) (postG c) d₁ (out-fresh u l b₁))
+        (all-seam (λ p. p < suc u) (preG c) p (pagesIn x) u (pagesIn y) (postG c) (below-more u l b₁) (omega arith))
 
 pub up-lvl : (n : ℕ) (c : Ctx) (s : Shape) (u : ℕ) → DeepC n c → Deep n s → Deep (n + high c + up c s u .grew) (up c s u .shape)
 up-lvl n top s u g h = (n, (let e : n + 0 + 1 ≡ suc n = omega arith in e), h)

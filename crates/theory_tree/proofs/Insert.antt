@@ -3,13 +3,13 @@
 use mathlib.Core.Path.{_≡_, sym, ap, _∙_}
 use mathlib.Core.Bool.{false}
 use Rattle.store.specs.Pick.{pick}
+use Rattle.leaf.specs.Rows.{Row}
+use Rattle.theory_tree.specs.Shape.{Shape, leaf, chain, All, KeysIn, Sorted, Bounded}
+use Rattle.theory_tree.specs.Versions.{ofVersion, arrivals}
 use mathlib.Core.List.{List, [], _∷_, _++_, append-assoc}
 use Prim.Native.Nat.{ℕ, _≤_, _<_}
 use native.Mathlib.Omega.{arith}
 use borrow.Author.Tests.{ne-eqb}
-use Rattle.leaf.specs.Rows.{Row}
-use Rattle.theory_tree.specs.Shape.{Shape, leaf, chain, All, KeysIn, Sorted, Bounded}
-use Rattle.theory_tree.specs.Versions.{ofVersion, arrivals}
 use Rattle.theory_tree.proofs.Contexts.{top-key, top, plug, preC, postC, loC, hiC, Loc, loc, place}
 use Rattle.theory_tree.proofs.Lists.{all-app, all-map}
 use Rattle.theory_tree.proofs.Zip.{plug-chain, unplug-bnd, loc-plug, Fine, loc-fine}

@@ -3,12 +3,12 @@
 use mathlib.Core.Path.{_≡_, refl, ap, _∙_}
 use mathlib.Core.Bool.{Bool, true, false}
 use Rattle.store.specs.Pick.{pick}
-use mathlib.Core.List.{List, [], _∷_}
-use Prim.Native.Nat.{ℕ}
 use Rattle.leaf.specs.Rows.{Row}
 use Rattle.theory_tree.specs.Pages.{Page, leafPage, innerPage, noPage, Pages}
-use Rattle.theory_tree.specs.Shape.{Shape, leaf, node, pair, chain, pages, head, rest, first, Holds, Deep, All, KeysIn, Sorted, NotAfter, Bounded, Sized, IsTree, LaterNotZero, WellFormed}
+use Rattle.theory_tree.specs.Shape.{Shape, leaf, node, pair, chain, pagesIn, head, rest, first, Holds, Deep, All, KeysIn, Sorted, NotAfter, Bounded, Sized, IsTree, LaterNotZero, WellFormed}
 use Rattle.theory_tree.specs.Versions.{only}
+use mathlib.Core.List.{List, [], _∷_}
+use Prim.Native.Nat.{ℕ}
 use Rattle.theory_tree.proofs.Lists.{all-left, all-right}
 use Rattle.theory_tree.proofs.Order.{btw-weak, filt-app}
 
@@ -23,7 +23,7 @@ module _ (f : List Row → List Row) where
   onLeaf (innerPage par j h r) = innerPage par j h r
   onLeaf noPage = noPage
 
-  pub map-pages : (t : Shape) → pages (mapS t) ≡ pages t
+  pub map-pages : (t : Shape) → pagesIn (mapS t) ≡ pagesIn t
   map-pages (leaf p cs) = refl
   map-pages (node p t) = ap (λ l. p ∷ l) (map-pages t)
   map-pages (pair a k b) = rw (map-pages a, map-pages b)
@@ -44,12 +44,12 @@ module _ (f : List Row → List Row) where
   map-first (pair a k b) = map-first a
 
   -- told page by page: however the stores were made
-  pub map-rep : (w v : Pages) (par nxt : ℕ) (t : Shape) → All (λ p. v p ≡ onLeaf (w p)) (pages t) → Holds w par nxt t → Holds v par nxt (mapS t)
+  pub map-rep : (w v : Pages) (par nxt : ℕ) (t : Shape) → All (λ p. v p ≡ onLeaf (w p)) (pagesIn t) → Holds w par nxt t → Holds v par nxt (mapS t)
   map-rep w v par nxt (leaf p cs) g h = g .0 ∙ ap onLeaf h
   map-rep w v par nxt (node p t) g h = (h .0, g .0 ∙ ap onLeaf (h .1) ∙ rw (map-head t, map-rest t), map-rep w v p nxt t (g .1) (h .2))
   map-rep w v par nxt (pair a k b) g h = (
-    rw (map-first b) (map-rep w v par (first b) a (all-left (λ p. v p ≡ onLeaf (w p)) (pages a) (pages b) g) (h .0)),
-    map-rep w v par nxt b (all-right (λ p. v p ≡ onLeaf (w p)) (pages a) (pages b) g) (h .1),
+    rw (map-first b) (map-rep w v par (first b) a (all-left (λ p. v p ≡ onLeaf (w p)) (pagesIn a) (pagesIn b) g) (h .0)),
+    map-rep w v par nxt b (all-right (λ p. v p ≡ onLeaf (w p)) (pagesIn a) (pagesIn b) g) (h .1),
   )
 
   pub map-lvl : (n : ℕ) (t : Shape) → Deep n t → Deep n (mapS t)
@@ -80,7 +80,7 @@ module _ (f : List Row → List Row) where
   map-bnd q lo hi (node p t) h = map-bnd q lo hi t h
   map-bnd q lo hi (pair a k b) h = (map-bnd q lo k a (h .0), map-bnd q k hi b (h .1))
 
-  pub map-wf : Keeps → (w v : Pages) (root used : ℕ) (t : Shape) → All (λ p. v p ≡ onLeaf (w p)) (pages t) → WellFormed w root used t → WellFormed v root used (mapS t)
+  pub map-wf : Keeps → (w v : Pages) (root used : ℕ) (t : Shape) → All (λ p. v p ≡ onLeaf (w p)) (pagesIn t) → WellFormed w root used t → WellFormed v root used (mapS t)
   map-wf q w v root used t g h = record {
     tree = map-tree t (h .tree);
     root-is = map-head t ∙ h .root-is;

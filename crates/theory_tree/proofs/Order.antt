@@ -3,15 +3,15 @@
 use mathlib.Core.Path.{_≡_, refl, sym, ap, _∙_}
 use mathlib.Core.Bool.{Bool, true, false}
 use Rattle.store.specs.Pick.{pick}
+use Rattle.leaf.specs.Rows.{Row}
+use Rattle.theory_tree.specs.Shape.{Shape, leaf, node, pair, chain, All, KeysIn, Bounded}
+use Rattle.theory_tree.specs.Versions.{only}
 use mathlib.Core.List.{List, [], _∷_, _++_, append-assoc, append-nil}
 use Prim.Native.Nat.{ℕ, _≤_, _<_}
 use native.Mathlib.Omega.{arith}
 use native.Mathlib.Nat.{le-trans}
 use lib.Dec.{leb, ltb}
 use borrow.Author.Tests.{leb-false, ltb-true}
-use Rattle.leaf.specs.Rows.{Row}
-use Rattle.theory_tree.specs.Shape.{Shape, leaf, node, pair, chain, All, KeysIn, Bounded}
-use Rattle.theory_tree.specs.Versions.{only}
 use Rattle.theory_tree.proofs.Workers.{leaves, flat, from, larger}
 use Rattle.theory_tree.proofs.Lists.{all-app, all-right, all-map}
 

@@ -3,6 +3,7 @@
 use mathlib.Core.Path.{_≡_, refl, sym, subst}
 use mathlib.Core.Bool.{Bool, true, false}
 use Rattle.store.specs.Pick.{pick}
+use Rattle.theory_tree.specs.Shape.{Shape, leaf, node, pair, pagesIn, All, NoneTwice}
 use mathlib.Core.List.{List, [], _∷_, _++_}
 use Prim.Native.Nat.{ℕ, zero, suc, _+_, _≤_, _<_}
 use native.Mathlib.Omega.{arith}
@@ -10,7 +11,6 @@ use native.Mathlib.Nat.{le-refl}
 use lib.ListN.{length, length-append}
 use lib.Dec.{eqb, leb}
 use borrow.Author.Tests.{ne-eqb, eqb-true, eqb-false}
-use Rattle.theory_tree.specs.Shape.{Shape, leaf, node, pair, pages, All, NoneTwice}
 use Rattle.theory_tree.proofs.Contexts.{Ctx, inL, inR, under}
 use Rattle.theory_tree.proofs.Lists.{Out}
 use Rattle.theory_tree.proofs.Walk.{locs, froms}
@@ -61,22 +61,22 @@ pigeon zero (x ∷ xs) d h = absurd (let l : x < 0 = h .0 in omega arith)
 pigeon (suc n) l d h =
     let i : length (del n l) ≤ n = pigeon n (del n l) (del-nodup n l d) (del-below n l h) in let j : length l ≤ suc (length (del n l)) = del-length n l d in omega arith
 
-pub locs-count : (t : Shape) (c : Ctx) → length (locs t c) ≤ length (pages t)
+pub locs-count : (t : Shape) (c : Ctx) → length (locs t c) ≤ length (pagesIn t)
 locs-count (leaf p cs) c = le-refl 1
-locs-count (node p f) c = let i : length (locs f (under p c)) ≤ length (pages f) = locs-count f (under p c) in omega arith
+locs-count (node p f) c = let i : length (locs f (under p c)) ≤ length (pagesIn f) = locs-count f (under p c) in omega arith
 locs-count (pair a k b) c =
     let i = locs-count a (inL k b c) in let j = locs-count b (inR a k c) in
-    omega (arith, length-append (locs a (inL k b c)) (locs b (inR a k c)), length-append (pages a) (pages b))
+    omega (arith, length-append (locs a (inL k b c)) (locs b (inR a k c)), length-append (pagesIn a) (pagesIn b))
 
-pub froms-count : (k : ℕ) (t : Shape) (c : Ctx) → length (froms k t c) ≤ length (pages t)
+pub froms-count : (k : ℕ) (t : Shape) (c : Ctx) → length (froms k t c) ≤ length (pagesIn t)
 froms-count k (leaf p cs) c = le-refl 1
-froms-count k (node p f) c = let i : length (froms k f (under p c)) ≤ length (pages f) = froms-count k f (under p c) in omega arith
+froms-count k (node p f) c = let i : length (froms k f (under p c)) ≤ length (pagesIn f) = froms-count k f (under p c) in omega arith
 froms-count k (pair a s b) c = go (leb k s) (froms-count k a (inL s b c)) (froms-count k b (inR a s c))
   where
-    total : length (pages a ++ pages b) ≡ length (pages a) + length (pages b)
-    total = length-append (pages a) (pages b)
+    total : length (pagesIn a ++ pagesIn b) ≡ length (pagesIn a) + length (pagesIn b)
+    total = length-append (pagesIn a) (pagesIn b)
 
-    go : (x : Bool) → length (froms k a (inL s b c)) ≤ length (pages a) → length (froms k b (inR a s c)) ≤ length (pages b)
-        → length (pick x (froms k a (inL s b c) ++ locs b (inR a s c)) (froms k b (inR a s c))) ≤ length (pages a ++ pages b)
+    go : (x : Bool) → length (froms k a (inL s b c)) ≤ length (pagesIn a) → length (froms k b (inR a s c)) ≤ length (pagesIn b)
+        → length (pick x (froms k a (inL s b c) ++ locs b (inR a s c)) (froms k b (inR a s c))) ≤ length (pagesIn a ++ pagesIn b)
     go true i j = omega (arith, total, length-append (froms k a (inL s b c)) (locs b (inR a s c)), locs-count b (inR a s c))
     go false i j = omega (arith, total)

@@ -5,7 +5,7 @@ use mathlib.Core.List.{List, [], _∷_, _++_}
 use Prim.Native.Nat.{ℕ, suc, _<_}
 use native.Mathlib.Omega.{arith}
 use Rattle.theory_tree.specs.Pages.{Page, leafPage, innerPage, noPage, Pages, withPage}
-use Rattle.theory_tree.specs.Shape.{Shape, leaf, node, pair, chain, pages, head, rest, first, Holds, Deep, All, NoneTwice, Bounded, Sized, IsTree, LaterNotZero, WellFormed}
+use Rattle.theory_tree.specs.Shape.{Shape, leaf, node, pair, chain, pagesIn, head, rest, first, Holds, Deep, All, NoneTwice, Bounded, Sized, IsTree, LaterNotZero, WellFormed}
 use Rattle.theory_tree.proofs.Workers.{setPar, roots, reparent}
 use Rattle.theory_tree.proofs.Entries.{kids}
 use Rattle.theory_tree.proofs.Lists.{all-app, all-left, all-right, all-map, Out, nd-left, nd-right, nd-apart, nd-join, out-fresh}
@@ -31,11 +31,11 @@ renum q (pair a k b) = pair (renum q a) k b
 -- the pages below the root page
 abbrev pub inside : Shape → List ℕ
 inside (leaf p cs) = []
-inside (node p f) = pages f
-inside (pair a k b) = inside a ++ pages b
+inside (node p f) = pagesIn f
+inside (pair a k b) = inside a ++ pagesIn b
 
 -- the moved subtree, whatever becomes of its old page afterwards
-pub moved-rep : (w : Pages) (q par nxt : ℕ) (t : Shape) → IsTree t → NoneTwice (pages t) → Out q (pages t) → Holds w par nxt t
+pub moved-rep : (w : Pages) (q par nxt : ℕ) (t : Shape) → IsTree t → NoneTwice (pagesIn t) → Out q (pagesIn t) → Holds w par nxt t
     → Holds (moved w (head t) q) (head t) nxt (renum q t)
 moved-rep w q par nxt (leaf r cs) t d o h =
     let e : moved w r q ≡ withPage w q (leafPage r nxt cs) = rw h in
@@ -44,7 +44,7 @@ moved-rep w q par nxt (node r f) t d o h =
     let x : Page = innerPage r (h .0) (head f) (rest f) in
     let e : moved w r q ≡ reparent q (roots f) (withPage w q x) = rw (h .1, roots-is f) in
     let z : All (λ p. Out p (q ∷ [])) (roots f) =
-    roots-all (λ p. Out p (q ∷ [])) f (all-map (λ y. q ≡ y → ⊥) (λ p. Out p (q ∷ [])) (λ p n. ((λ c. n (sym c)), tt)) (pages f) (o .1)) in
+    roots-all (λ p. Out p (q ∷ [])) f (all-map (λ y. q ≡ y → ⊥) (λ p. Out p (q ∷ [])) (λ p n. ((λ c. n (sym c)), tt)) (pagesIn f) (o .1)) in
     subst (λ (v : Pages). Holds v r nxt (node q f)) (sym e) (
       h .0,
       agree-reparent q (roots f) (q ∷ []) (withPage w q x) z .0 ∙ withPage-same w q x,
@@ -53,24 +53,24 @@ moved-rep w q par nxt (node r f) t d o h =
 moved-rep w q par nxt (pair a k b) t d o h = absurd t
 
 -- a new parent for two runs that had different ones
-pub adopt-two : (q : ℕ) (w : Pages) (pa pb nxt : ℕ) (a : Shape) (k : ℕ) (b : Shape) → NoneTwice (pages a ++ pages b) → Holds w pa (first b) a → Holds w pb nxt b
+pub adopt-two : (q : ℕ) (w : Pages) (pa pb nxt : ℕ) (a : Shape) (k : ℕ) (b : Shape) → NoneTwice (pagesIn a ++ pagesIn b) → Holds w pa (first b) a → Holds w pb nxt b
     → Holds (reparent q (roots b) (reparent q (roots a) w)) q nxt (pair a k b)
 adopt-two q w pa pb nxt a k b d ha hb =
-    let apart : All (λ x. Out x (pages b)) (pages a) = nd-apart (pages a) (pages b) d in
+    let apart : All (λ x. Out x (pagesIn b)) (pagesIn a) = nd-apart (pagesIn a) (pagesIn b) d in
     let w₁ : Pages = reparent q (roots a) w in
-    let toB : Agree w w₁ (pages b) = agree-reparent q (roots a) (pages b) w (roots-all (λ x. Out x (pages b)) a apart) in
-    let toA : Agree w₁ (reparent q (roots b) w₁) (pages a) =
-    agree-reparent q (roots b) (pages a) w₁ (roots-all (λ x. Out x (pages a)) b (out-flip (pages a) (pages b) apart)) in (
-      frame w₁ (reparent q (roots b) w₁) q (first b) a toA (adopt q w pa (first b) a (nd-left (pages a) (pages b) d) ha),
-      adopt q w₁ pb nxt b (nd-right (pages a) (pages b) d) (frame w w₁ pb nxt b toB hb),
+    let toB : Agree w w₁ (pagesIn b) = agree-reparent q (roots a) (pagesIn b) w (roots-all (λ x. Out x (pagesIn b)) a apart) in
+    let toA : Agree w₁ (reparent q (roots b) w₁) (pagesIn a) =
+    agree-reparent q (roots b) (pagesIn a) w₁ (roots-all (λ x. Out x (pagesIn a)) b (out-flip (pagesIn a) (pagesIn b) apart)) in (
+      frame w₁ (reparent q (roots b) w₁) q (first b) a toA (adopt q w pa (first b) a (nd-left (pagesIn a) (pagesIn b) d) ha),
+      adopt q w₁ pb nxt b (nd-right (pagesIn a) (pagesIn b) d) (frame w w₁ pb nxt b toB hb),
     )
 
-pub renum-pages : (q : ℕ) (t : Shape) → IsTree t → pages (renum q t) ≡ q ∷ inside t
+pub renum-pages : (q : ℕ) (t : Shape) → IsTree t → pagesIn (renum q t) ≡ q ∷ inside t
 renum-pages q (leaf p cs) h = refl
 renum-pages q (node p f) h = refl
 renum-pages q (pair a k b) h = absurd h
 
-pub tree-pages : (t : Shape) → IsTree t → pages t ≡ head t ∷ inside t
+pub tree-pages : (t : Shape) → IsTree t → pagesIn t ≡ head t ∷ inside t
 tree-pages (leaf p cs) h = refl
 tree-pages (node p f) h = refl
 tree-pages (pair a k b) h = absurd h
@@ -113,30 +113,30 @@ moved-agree w q par nxt (pair a k b) z t h o c = absurd t
 abbrev pub pinned : Pages → ℕ → ℕ → ℕ → ℕ → ℕ → Pages
 pinned w r j q k n = reparent r (q ∷ n ∷ []) (withPage (moved w r q) r (innerPage 0 j q ((k, n) ∷ [])))
 
-pub pin-rep : (w : Pages) (m j q nxt : ℕ) (a : Shape) (k : ℕ) (b : Shape) → IsTree a → IsTree b → NoneTwice (pages a ++ pages b)
-    → All (λ p. p < q) (pages a ++ pages b) → Holds w m nxt (pair a k b)
+pub pin-rep : (w : Pages) (m j q nxt : ℕ) (a : Shape) (k : ℕ) (b : Shape) → IsTree a → IsTree b → NoneTwice (pagesIn a ++ pagesIn b)
+    → All (λ p. p < q) (pagesIn a ++ pagesIn b) → Holds w m nxt (pair a k b)
     → Holds (pinned w (head a) j q k (head b)) 0 nxt (node (head a) (pair (renum q a) k b))
 pin-rep w m j q nxt a k b t tb d l h =
     let r : ℕ = head a in
     let x : Page = innerPage 0 j q ((k, head b) ∷ rest b) in
-    let o : Out q (pages a ++ pages b) = out-fresh q (pages a ++ pages b) l in
-    let oa : Out q (pages a) = all-left (λ z. q ≡ z → ⊥) (pages a) (pages b) o in
-    let ob : Out q (pages b) = all-right (λ z. q ≡ z → ⊥) (pages a) (pages b) o in
+    let o : Out q (pagesIn a ++ pagesIn b) = out-fresh q (pagesIn a ++ pagesIn b) l in
+    let oa : Out q (pagesIn a) = all-left (λ z. q ≡ z → ⊥) (pagesIn a) (pagesIn b) o in
+    let ob : Out q (pagesIn b) = all-right (λ z. q ≡ z → ⊥) (pagesIn a) (pagesIn b) o in
     let oi : All (λ z. q ≡ z → ⊥) (r ∷ inside a) = rw (tree-pages a t) at oa in
-    let ap : All (λ y. Out y (pages b)) (r ∷ inside a) = rw (tree-pages a t) at (nd-apart (pages a) (pages b) d) in
-    let di : NoneTwice (r ∷ inside a) = rw (tree-pages a t) at (nd-left (pages a) (pages b) d) in
+    let ap : All (λ y. Out y (pagesIn b)) (r ∷ inside a) = rw (tree-pages a t) at (nd-apart (pagesIn a) (pagesIn b) d) in
+    let di : NoneTwice (r ∷ inside a) = rw (tree-pages a t) at (nd-left (pagesIn a) (pagesIn b) d) in
     let v : Pages = moved w r q in
-    let ha : Holds v r (first b) (renum q a) = moved-rep w q m (first b) a t (nd-left (pages a) (pages b) d) oa (h .0) in
-    let hb : Holds v m nxt b = frame w v m nxt b (moved-agree w q m (first b) a (pages b) t (h .0) ob (ap .1)) (h .1) in
-    let ra : Out r (pages (renum q a)) = rw (renum-pages q a t) ((λ e. oi .0 (sym e)), di .0) in
-    let d′ : NoneTwice (pages (renum q a) ++ pages b) = rw (renum-pages q a t)
-    (all-app (λ z. q ≡ z → ⊥) (inside a) (pages b) (oi .1) ob, nd-join (inside a) (pages b) (di .1) (nd-right (pages a) (pages b) d) (ap .1)) in
+    let ha : Holds v r (first b) (renum q a) = moved-rep w q m (first b) a t (nd-left (pagesIn a) (pagesIn b) d) oa (h .0) in
+    let hb : Holds v m nxt b = frame w v m nxt b (moved-agree w q m (first b) a (pagesIn b) t (h .0) ob (ap .1)) (h .1) in
+    let ra : Out r (pagesIn (renum q a)) = rw (renum-pages q a t) ((λ e. oi .0 (sym e)), di .0) in
+    let d′ : NoneTwice (pagesIn (renum q a) ++ pagesIn b) = rw (renum-pages q a t)
+    (all-app (λ z. q ≡ z → ⊥) (inside a) (pagesIn b) (oi .1) ob, nd-join (inside a) (pagesIn b) (di .1) (nd-right (pagesIn a) (pagesIn b) d) (ap .1)) in
     let two : Holds (reparent r (roots b) (reparent r (roots (renum q a)) (withPage v r x))) r nxt (pair (renum q a) k b) =
     adopt-two r (withPage v r x) r m nxt (renum q a) k b d′ (frame-withPage v r x r (first b) (renum q a) ra ha) (frame-withPage v r x m nxt b (ap .0) hb) in
     let v₁ : Pages = reparent r (q ∷ []) (withPage v r x) in
     let z₁ : All (λ p. Out p (r ∷ [])) (q ∷ []) = ((oi .0, tt), tt) in
     let z₂ : All (λ p. Out p (r ∷ [])) (roots b) =
-    roots-all (λ p. Out p (r ∷ [])) b (all-map (λ y. r ≡ y → ⊥) (λ p. Out p (r ∷ [])) (λ p n. ((λ c. n (sym c)), tt)) (pages b) (ap .0)) in
+    roots-all (λ p. Out p (r ∷ [])) b (all-map (λ y. r ≡ y → ⊥) (λ p. Out p (r ∷ [])) (λ p n. ((λ c. n (sym c)), tt)) (pagesIn b) (ap .0)) in
     let same : reparent r (roots b) v₁ ≡ pinned w r j q k (head b) = rw (tree-roots b tb, tree-rest b tb) in
     subst (λ (y : Pages). Holds y 0 nxt (node r (pair (renum q a) k b))) same (
       j,
@@ -177,15 +177,15 @@ pin-chain q m r a k b t = rw (renum-chain q a t)
 pub pin-wf : (w : Pages) (m j q : ℕ) (a : Shape) (k : ℕ) (b : Shape) → IsTree a → IsTree b → WellFormed w m q (node m (pair a k b))
     → WellFormed (pinned w (head a) j q k (head b)) (head a) (suc q) (node (head a) (pair (renum q a) k b))
 pin-wf w m j q a k b t tb f =
-    let d : NoneTwice (pages a ++ pages b) = f .distinct .1 in
-    let l : All (λ p. p < q) (pages a ++ pages b) = f .below .1 in
-    let l′ : All (λ p. p < suc q) (pages a ++ pages b) = all-map (λ p. p < q) (λ p. p < suc q) (λ p h. omega arith) (pages a ++ pages b) l in
-    let o : Out q (pages a ++ pages b) = out-fresh q (pages a ++ pages b) l in
-    let e : pages a ++ pages b ≡ head a ∷ (inside a ++ pages b) = rw (tree-pages a t) in
-    let e′ : pages (renum q a) ++ pages b ≡ q ∷ (inside a ++ pages b) = rw (renum-pages q a t) in
-    let d₁ : NoneTwice (head a ∷ (inside a ++ pages b)) = rw e at d in
-    let o₁ : Out q (head a ∷ (inside a ++ pages b)) = rw e at o in
-    let l₁ : All (λ p. p < suc q) (head a ∷ (inside a ++ pages b)) = rw e at l′ in
+    let d : NoneTwice (pagesIn a ++ pagesIn b) = f .distinct .1 in
+    let l : All (λ p. p < q) (pagesIn a ++ pagesIn b) = f .below .1 in
+    let l′ : All (λ p. p < suc q) (pagesIn a ++ pagesIn b) = all-map (λ p. p < q) (λ p. p < suc q) (λ p h. omega arith) (pagesIn a ++ pagesIn b) l in
+    let o : Out q (pagesIn a ++ pagesIn b) = out-fresh q (pagesIn a ++ pagesIn b) l in
+    let e : pagesIn a ++ pagesIn b ≡ head a ∷ (inside a ++ pagesIn b) = rw (tree-pages a t) in
+    let e′ : pagesIn (renum q a) ++ pagesIn b ≡ q ∷ (inside a ++ pagesIn b) = rw (renum-pages q a t) in
+    let d₁ : NoneTwice (head a ∷ (inside a ++ pagesIn b)) = rw e at d in
+    let o₁ : Out q (head a ∷ (inside a ++ pagesIn b)) = rw e at o in
+    let l₁ : All (λ p. p < suc q) (head a ∷ (inside a ++ pagesIn b)) = rw e at l′ in
     let small′ : Sized (pair a k b) = f .small .2 in
     let same-rest : rest (renum q a) ≡ rest a = renum-rest q a t ∙ sym (tree-rest a t) in
     record {

@@ -11,10 +11,10 @@ use borrow.Author.Tests.{eq-eqb, ne-eqb, le-leb, leb-true, eqb-true}
 use Rattle.store.specs.Pick.{pick}
 use Rattle.page.specs.Header.{nodeType, parentOf, cellCount, nextLeaf}
 use Rattle.leaf.specs.Rows.{Row, rows}
-use Rattle.tree.proofs.Ways.{and-both}
 use Rattle.inner.specs.Inner.{keyAt, childAt, keysFrom, childrenFrom, keysOf, childrenOf}
 use Rattle.theory_tree.specs.Pages.{Page, leafPage, innerPage, noPage}
 use Rattle.theory_tree.specs.View.{entriesFrom, entriesOf, isLeafPage, isInnerPage, said}
+use Rattle.tree.proofs.Ways.{and-both}
 use Rattle.theory_tree.proofs.Entries.{parOf, nextOf, headOf, restOf, kids}
 
 -- 1 a leaf, 2 an internal page, 0 neither

@@ -1,11 +1,11 @@
 -- The leaf that a search comes to, and the separators of a run in bounds.
 -- Assumes nothing.
 use Rattle.store.specs.Pick.{pick}
+use Rattle.theory_tree.specs.Shape.{Shape, leaf, node, pair, head, rest, All, Bounded}
 use mathlib.Core.List.{[], _∷_}
 use Prim.Native.Nat.{ℕ, _≤_}
 use native.Mathlib.Nat.{le-trans}
 use lib.Dec.{leb}
-use Rattle.theory_tree.specs.Shape.{Shape, leaf, node, pair, head, rest, All, Bounded}
 use Rattle.theory_tree.proofs.Lists.{all-app, all-map}
 use Rattle.theory_tree.proofs.Order.{bnd-le}
 

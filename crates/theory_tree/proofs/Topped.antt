@@ -3,15 +3,15 @@
 use mathlib.Core.Path.{_≡_, refl, sym, ap, _∙_, subst}
 use mathlib.Core.Bool.{Bool, true, false}
 use Rattle.store.specs.Pick.{pick}
+use Rattle.leaf.specs.Rows.{Row}
+use Rattle.theory_tree.specs.Pages.{innerPage, Pages}
+use Rattle.theory_tree.specs.Shape.{Shape, leaf, node, pair, chain, head, rest, IsTree, WellFormed}
 use mathlib.Core.List.{List, [], _∷_}
 use Prim.Native.Nat.{ℕ, suc, _≤_}
 use native.Mathlib.Omega.{arith}
 use lib.ListN.{length}
 use lib.Dec.{leb}
-use Rattle.leaf.specs.Rows.{Row}
-use Rattle.theory_tree.specs.Pages.{innerPage, Pages}
 use mathlib.Core.Logic.{_⊎_, inl, inr}
-use Rattle.theory_tree.specs.Shape.{Shape, leaf, node, pair, chain, head, rest, IsTree, WellFormed}
 use Rattle.theory_tree.proofs.Contexts.{Ctx, top, inL, inR, under, plug, cut, Grown, up}
 use Rattle.theory_tree.proofs.Enter.{plug-head, tree-rest}
 use Rattle.theory_tree.proofs.Pin.{renum, pinned, pin-wf, pin-chain}

@@ -3,12 +3,12 @@
 use mathlib.Core.Path.{_≡_, refl, _∙_}
 use mathlib.Core.Bool.{Bool, true, false}
 use Rattle.store.specs.Pick.{pick}
-use mathlib.Core.List.{List, [], _∷_, _++_, map, map-append}
-use Prim.Native.Nat.{ℕ}
-use lib.Dec.{leb}
 use Rattle.leaf.specs.Rows.{Row}
 use Rattle.theory_tree.specs.Pages.{leafPage, Pages}
 use Rattle.theory_tree.specs.Shape.{Shape, leaf, node, pair, first, Holds, All, LaterNotZero}
+use mathlib.Core.List.{List, [], _∷_, _++_, map, map-append}
+use Prim.Native.Nat.{ℕ}
+use lib.Dec.{leb}
 use Rattle.theory_tree.proofs.Workers.{leaves, from}
 use Rattle.theory_tree.proofs.Contexts.{Ctx, inL, inR, under, plug, parC, nxtC, Loc}
 use Rattle.theory_tree.proofs.Lists.{all-app, all-map}

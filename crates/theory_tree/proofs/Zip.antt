@@ -3,13 +3,13 @@
 use mathlib.Core.Path.{_≡_, refl, sym, _∙_}
 use mathlib.Core.Bool.{Bool, true, false}
 use Rattle.store.specs.Pick.{pick}
+use Rattle.theory_tree.specs.Pages.{Pages}
+use Rattle.theory_tree.specs.Shape.{Shape, leaf, node, pair, chain, pagesIn, head, rest, first, Holds, All, Bounded}
 use mathlib.Core.List.{[], _++_, append-assoc, append-nil}
 use Prim.Native.Nat.{ℕ, _≤_, _<_}
 use native.Mathlib.Omega.{arith}
 use lib.Dec.{ltb}
 use borrow.Author.Tests.{ltb-true, ltb-false}
-use Rattle.theory_tree.specs.Pages.{Pages}
-use Rattle.theory_tree.specs.Shape.{Shape, leaf, node, pair, chain, pages, head, rest, first, Holds, All, Bounded}
 use Rattle.theory_tree.proofs.Contexts.{Ctx, top, inL, inR, under, plug, preC, postC, preG, postG, loC, hiC, BoundedC, parC, nxtC, HoldsC, loc}
 use Rattle.theory_tree.proofs.Lists.{all-app, all-map}
 use Rattle.theory_tree.proofs.Order.{btw-above, bnd-chain}
@@ -20,8 +20,8 @@ plug-chain (inL k b c) t = plug-chain c (pair t k b) ∙ simp append-assoc
 plug-chain (inR a k c) t = plug-chain c (pair a k t) ∙ simp append-assoc
 plug-chain (under p c) t = plug-chain c (node p t)
 
-pub plug-pages : (c : Ctx) (t : Shape) → pages (plug c t) ≡ preG c ++ (pages t ++ postG c)
-plug-pages top t = sym (append-nil (pages t))
+pub plug-pages : (c : Ctx) (t : Shape) → pagesIn (plug c t) ≡ preG c ++ (pagesIn t ++ postG c)
+plug-pages top t = sym (append-nil (pagesIn t))
 plug-pages (inL k b c) t = plug-pages c (pair t k b) ∙ simp append-assoc
 plug-pages (inR a k c) t = plug-pages c (pair a k t) ∙ simp append-assoc
 plug-pages (under p c) t = plug-pages c (node p t) ∙ simp append-assoc

@@ -6,6 +6,7 @@ use Prim.Native.Nat.{ℕ, suc, _≤_, _<_}
 use lib.ListN.{length}
 use Rattle.leaf.specs.Rows.{Row}
 use Rattle.theory_tree.specs.Pages.{Pages, leafPage, innerPage}
+use Rattle.inner.specs.Inner.{maxKeys}
 
 pub data Shape : Type 0 where
   leaf : ℕ → List Row → Shape
@@ -18,10 +19,10 @@ chain (leaf p rs) = rs
 chain (node p f) = chain f
 chain (pair a k b) = chain a ++ chain b
 
-abbrev pub pages : Shape → List ℕ
-pages (leaf p rs) = p ∷ []
-pages (node p f) = p ∷ pages f
-pages (pair a k b) = pages a ++ pages b
+abbrev pub pagesIn : Shape → List ℕ
+pagesIn (leaf p rs) = p ∷ []
+pagesIn (node p f) = p ∷ pagesIn f
+pagesIn (pair a k b) = pagesIn a ++ pagesIn b
 
 -- the first page of the run itself, and each further one with the separator before it: what the page above holds
 abbrev pub head : Shape → ℕ
@@ -84,7 +85,7 @@ Bounded lo hi (pair a k b) = Bounded lo k a × Bounded k hi b
 -- "Internal pages hold 1 to 510 .. keys"
 abbrev pub Sized : Shape → Type 0
 Sized (leaf p rs) = Unit {0}
-Sized (node p f) = (1 ≤ length (rest f)) × (length (rest f) ≤ 510) × Sized f
+Sized (node p f) = (1 ≤ length (rest f)) × (length (rest f) ≤ maxKeys) × Sized f
 Sized (pair a k b) = Sized a × Sized b
 
 -- one tree, not a run of several
@@ -108,5 +109,5 @@ pub record WellFormed (w : Pages) (root used : ℕ) (t : Shape) : Type 0 where
   pub bounds : Bounded 0 4294967295 t
   pub small : Sized t
   pub later : LaterNotZero t
-  pub distinct : NoneTwice (pages t)
-  pub below : All (λ p. p < used) (pages t)
+  pub distinct : NoneTwice (pagesIn t)
+  pub below : All (λ p. p < used) (pagesIn t)

@@ -6,9 +6,9 @@ use lib.Dec.{leb, eqb}
 use lib.ListN.{length}
 use Rattle.store.specs.Pick.{pick}
 use Rattle.page.specs.Page.{page}
-use Rattle.page.specs.Header.{nodeType, parentOf, cellCount, nextLeaf}
+use Rattle.page.specs.Header.{nodeType, parentOf, cellCount, nextLeaf, nodeInternal, nodeLeaf}
 use Rattle.leaf.specs.Rows.{rows}
-use Rattle.inner.specs.Inner.{keyAt, childAt}
+use Rattle.inner.specs.Inner.{keyAt, childAt, maxKeys}
 use Rattle.theory_tree.specs.Pages.{Page, leafPage, innerPage, noPage, Pages}
 
 -- n keys from the i-th on, each with the child right of it
@@ -21,10 +21,10 @@ entriesOf pg = entriesFrom 0 (cellCount pg) pg
 
 -- "Leaf cells readable"; "1 to 510 keys"
 abbrev pub isLeafPage : List ℕ → Bool
-isLeafPage pg = eqb (nodeType pg) 1 && eqb (length (rows pg)) (cellCount pg)
+isLeafPage pg = eqb (nodeType pg) nodeLeaf && eqb (length (rows pg)) (cellCount pg)
 
 abbrev pub isInnerPage : List ℕ → Bool
-isInnerPage pg = eqb (nodeType pg) 0 && (leb 1 (cellCount pg) && leb (cellCount pg) 510)
+isInnerPage pg = eqb (nodeType pg) nodeInternal && (leb 1 (cellCount pg) && leb (cellCount pg) maxKeys)
 
 unfoldable pub said : List ℕ → Page
 said pg =

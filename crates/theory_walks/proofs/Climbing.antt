@@ -15,10 +15,10 @@ use Rattle.inner.specs.Route.{firstWhere, childPlace}
 use Rattle.leaf.specs.Rows.{Row}
 use Rattle.tree.specs.Climb.{aboveOf, up, climbOf}
 use Rattle.tree.specs.declared.climb.Above.{Above}
-use Rattle.tree.proofs.Climbing.{above-page}
 use Rattle.theory_tree.specs.Pages.{innerPage}
 use Rattle.theory_tree.specs.View.{view}
-use Rattle.theory_tree.specs.Shape.{Shape, leaf, node, pair, pages, head, rest, Holds, Deep, All, NoneTwice, Bounded, IsTree, WellFormed}
+use Rattle.theory_tree.specs.Shape.{Shape, leaf, node, pair, pagesIn, head, rest, Holds, Deep, All, NoneTwice, Bounded, IsTree, WellFormed}
+use Rattle.tree.proofs.Climbing.{above-page}
 use Rattle.theory_tree.proofs.Workers.{roots}
 use Rattle.theory_tree.proofs.Contexts.{Ctx, top, inL, inR, under, plug, preG, postG, loC, hiC, parC, nxtC, high}
 use Rattle.theory_tree.proofs.Entries.{path}
@@ -47,19 +47,19 @@ alone (inR a k c) x e i = absurd (subst IsTree (alone c (pair a k x) e i) i)
 alone (under p c) x e i = absurd (omega arith)
 
 -- the root is none of the pages below a page
-pub not-root : (c : Ctx) (x : Shape) → 1 ≤ high c → IsTree (plug c x) → NoneTwice (pages (plug c x)) → All (λ p. p ≡ head (plug c x) → ⊥) (pages x)
+pub not-root : (c : Ctx) (x : Shape) → 1 ≤ high c → IsTree (plug c x) → NoneTwice (pagesIn (plug c x)) → All (λ p. p ≡ head (plug c x) → ⊥) (pagesIn x)
 not-root top x l i d = absurd (omega arith)
-not-root (inL k b c) x l i d = all-left (λ p. p ≡ head (plug c (pair x k b)) → ⊥) (pages x) (pages b) (not-root c (pair x k b) l i d)
-not-root (inR a k c) x l i d = all-right (λ p. p ≡ head (plug c (pair a k x)) → ⊥) (pages a) (pages x) (not-root c (pair a k x) l i d)
+not-root (inL k b c) x l i d = all-left (λ p. p ≡ head (plug c (pair x k b)) → ⊥) (pagesIn x) (pagesIn b) (not-root c (pair x k b) l i d)
+not-root (inR a k c) x l i d = all-right (λ p. p ≡ head (plug c (pair a k x)) → ⊥) (pagesIn a) (pagesIn x) (not-root c (pair a k x) l i d)
 not-root (under q c) x l i d = by-high (high c) refl (not-root c (node q x))
   where
     by-high : (n : ℕ) → high c ≡ n
-        → (1 ≤ high c → IsTree (plug c (node q x)) → NoneTwice (pages (plug c (node q x))) → All (λ p. p ≡ head (plug c (node q x)) → ⊥) (q ∷ pages x))
-        → All (λ p. p ≡ head (plug c (node q x)) → ⊥) (pages x)
+        → (1 ≤ high c → IsTree (plug c (node q x)) → NoneTwice (pagesIn (plug c (node q x))) → All (λ p. p ≡ head (plug c (node q x)) → ⊥) (q ∷ pagesIn x))
+        → All (λ p. p ≡ head (plug c (node q x)) → ⊥) (pagesIn x)
     by-high zero e ih =
         let w : plug c (node q x) ≡ node q x = alone c (node q x) e i in
-        let n : NoneTwice (q ∷ pages x) = subst (λ (y : Shape). NoneTwice (pages y)) w d in
-        all-map (λ p. q ≡ p → ⊥) (λ p. p ≡ head (plug c (node q x)) → ⊥) (λ p g z. g (sym (z ∙ ap head w))) (pages x) (n .0)
+        let n : NoneTwice (q ∷ pagesIn x) = subst (λ (y : Shape). NoneTwice (pagesIn y)) w d in
+        all-map (λ p. q ≡ p → ⊥) (λ p. p ≡ head (plug c (node q x)) → ⊥) (λ p g z. g (sym (z ∙ ap head w))) (pagesIn x) (n .0)
     by-high (suc n) e ih = ih (omega arith) i d .1
 
 module _ (s : List ℕ) (used : ℕ) where
@@ -84,8 +84,8 @@ module _ (s : List ℕ) (used : ℕ) where
   unfolding climbOf
   way-up m root p q qs z w ih = rw (ne-eqb p root z, w, ih)
 
-  climb-run : (c : Ctx) (x : Shape) (m p : ℕ) → high c ≤ m → Holds (view s) 0 0 (plug c x) → IsTree (plug c x) → NoneTwice (pages (plug c x))
-      → All (λ q. q < used) (pages (plug c x)) → (hi : ℕ) → Bounded 0 hi (plug c x) → List·Memᴰ p (roots x) → parentOf (page p s) ≡ parC 0 c
+  climb-run : (c : Ctx) (x : Shape) (m p : ℕ) → high c ≤ m → Holds (view s) 0 0 (plug c x) → IsTree (plug c x) → NoneTwice (pagesIn (plug c x))
+      → All (λ q. q < used) (pagesIn (plug c x)) → (hi : ℕ) → Bounded 0 hi (plug c x) → List·Memᴰ p (roots x) → parentOf (page p s) ≡ parC 0 c
       → climbOf m used (head (plug c x)) p s ≡ up (p ∷ path c)
   climb-run top x m p l h i d u hi b k e = at-root x i k m
     where
@@ -99,8 +99,8 @@ module _ (s : List ℕ) (used : ℕ) where
   climb-run (under q c) x (suc m) p l h i d u hi b k e =
       let g = unplug-rep (view s) 0 0 c (node q x) h .1 in
       let bx = unplug-bnd 0 hi c (node q x) b .1 in
-      let a : All (λ r. r < used) (preG c ++ (q ∷ (pages x ++ postG c))) = rw (← plug-pages c (node q x)) u in
-      let qu : q < used = all-right (λ r. r < used) (preG c) (q ∷ (pages x ++ postG c)) a .0 in
+      let a : All (λ r. r < used) (preG c ++ (q ∷ (pagesIn x ++ postG c))) = rw (← plug-pages c (node q x)) u in
+      let qu : q < used = all-right (λ r. r < used) (preG c) (q ∷ (pagesIn x ++ postG c)) a .0 in
       let nr : p ≡ head (plug c (node q x)) → ⊥ =
       mem-all (λ r. r ≡ head (plug c (node q x)) → ⊥) p (roots x) k (roots-all (λ r. r ≡ head (plug c (node q x)) → ⊥) x (not-root (under q c) x (omega arith) i d)) in
       way-up m (head (plug c (node q x))) p q (path c) nr (above-is p q (parC 0 c) (g .0) x (loC 0 c) (hiC hi c) (g .1) bx qu e k)
@@ -117,6 +117,6 @@ climb-leaf s root used t f c p rs e =
     let n′ = f .level .1 in
     let r : head (plug c (leaf p rs)) ≡ root = sym (ap head e) ∙ f .root-is in
     rw r at
-    (climb-run s used c (leaf p rs) 3 p (omega arith) h (subst IsTree e (f .tree)) (subst (λ (x : Shape). NoneTwice (pages x)) e (f .distinct))
-    (subst (λ (x : Shape). All (λ q. q < used) (pages x)) e (f .below)) 4294967295 (subst (Bounded 0 4294967295) e (f .bounds)) (List·Memᴰ·head refl)
+    (climb-run s used c (leaf p rs) 3 p (omega arith) h (subst IsTree e (f .tree)) (subst (λ (x : Shape). NoneTwice (pagesIn x)) e (f .distinct))
+    (subst (λ (x : Shape). All (λ q. q < used) (pagesIn x)) e (f .below)) 4294967295 (subst (Bounded 0 4294967295) e (f .bounds)) (List·Memᴰ·head refl)
     (leaf-at s p (parC 0 c) (nxtC 0 c) rs v .parent))

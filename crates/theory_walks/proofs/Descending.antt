@@ -16,10 +16,10 @@ use Rattle.inner.specs.Route.{firstWhere}
 use Rattle.tree.specs.Descend.{turnOf, childOf, descendOf}
 use Rattle.tree.specs.declared.Route.{Route}
 use Rattle.tree.specs.declared.Descent.{Descent}
-use Rattle.tree.proofs.Ways.{way-leaf, way-on}
 use Rattle.theory_tree.specs.Pages.{innerPage}
 use Rattle.theory_tree.specs.View.{entriesFrom, view}
-use Rattle.theory_tree.specs.Shape.{Shape, leaf, node, pair, pages, head, rest, first, Holds, Deep, All, Bounded, IsTree, WellFormed}
+use Rattle.theory_tree.specs.Shape.{Shape, leaf, node, pair, pagesIn, head, rest, first, Holds, Deep, All, Bounded, IsTree, WellFormed}
+use Rattle.tree.proofs.Ways.{way-leaf, way-on}
 use Rattle.theory_tree.proofs.Contexts.{Ctx, top, inL, inR, under, loc}
 use Rattle.theory_tree.proofs.Lists.{all-left, all-right}
 use Rattle.theory_tree.proofs.Seek.{leafOf, seps-below}
@@ -93,7 +93,7 @@ module _ (left : ℕ → Bool) where
 -- ---- the descent
 
 pub descend-run : (s : List ℕ) (used : ℕ) (route : Route) (n m par nxt lo hi : ℕ) (g : Shape) → Holds (view s) par nxt g → Deep n g → Bounded lo hi g
-    → All (λ p. p < used) (pages g) → n ≤ m → descendOf m route used (childBy (leftOn route) (head g) (rest g)) s ≡ Descent.Leaf (leafBy (leftOn route) g)
+    → All (λ p. p < used) (pagesIn g) → n ≤ m → descendOf m route used (childBy (leftOn route) (head g) (rest g)) s ≡ Descent.Leaf (leafBy (leftOn route) g)
 descend-run s used route n m par nxt lo hi (leaf p rs) h d b u l =
     sym (way-leaf route used p s (u .0) refl refl m (leaf-at s p par nxt rs h .type))
 descend-run s used route n m par nxt lo hi (node p f) h d b u l =
@@ -107,8 +107,8 @@ descend-run s used route n m par nxt lo hi (node p f) h d b u l =
     sym (way-on route used p s (u .0) refl refl other m (λ z. omega arith) refl j (sym child)) ∙ i
 descend-run s used route n m par nxt lo hi (pair a k g) h d b u l =
     by-left (leftOn route k) refl
-    (descend-run s used route n m par (first g) lo k a (h .0) (d .0) (b .0) (all-left (λ p. p < used) (pages a) (pages g) u) l)
-    (descend-run s used route n m par nxt k hi g (h .1) (d .1) (b .1) (all-right (λ p. p < used) (pages a) (pages g) u) l)
+    (descend-run s used route n m par (first g) lo k a (h .0) (d .0) (b .0) (all-left (λ p. p < used) (pagesIn a) (pagesIn g) u) l)
+    (descend-run s used route n m par nxt k hi g (h .1) (d .1) (b .1) (all-right (λ p. p < used) (pagesIn a) (pagesIn g) u) l)
   where
     by-left : (x : Bool) → leftOn route k ≡ x
         → descendOf m route used (childBy (leftOn route) (head a) (rest a)) s ≡ Descent.Leaf (leafBy (leftOn route) a)
@@ -121,7 +121,7 @@ descend-run s used route n m par nxt lo hi (pair a k g) h d b u l =
 
 -- from the one page of a tree
 pub descend-sub : (s : List ℕ) (used : ℕ) (route : Route) (n m par nxt lo hi : ℕ) (g : Shape) → IsTree g → Holds (view s) par nxt g → Deep n g → Bounded lo hi g
-    → All (λ p. p < used) (pages g) → n ≤ m → descendOf m route used (head g) s ≡ Descent.Leaf (leafBy (leftOn route) g)
+    → All (λ p. p < used) (pagesIn g) → n ≤ m → descendOf m route used (head g) s ≡ Descent.Leaf (leafBy (leftOn route) g)
 descend-sub s used route n m par nxt lo hi g i h d b u l = rw (tree-rest g i) at (descend-run s used route n m par nxt lo hi g h d b u l)
 
 -- ---- where each route leads to

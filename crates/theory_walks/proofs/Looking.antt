@@ -13,7 +13,6 @@ use Rattle.store.specs.Pick.{pick}
 use Rattle.page.specs.Page.{page}
 use Rattle.row.specs.declared.Cell.{Cell}
 use Rattle.mvcc.specs.Rules.{visible}
-use Rattle.mvcc.specs.declared.Current.{Current}
 use Rattle.leaf.specs.Cells.{cells, foldCells, judgeLeaf, hasLarger}
 use Rattle.leaf.specs.Find.{later, newest, findLeaf, testOf, joined, testLeaf}
 use Rattle.leaf.specs.Rows.{Row, rowOf, rows}
@@ -25,10 +24,11 @@ use Rattle.tree.specs.Chain.{stop, go, seenBest, lookBest, bestAlong, seenTest,
 use Rattle.tree.specs.Lookup.{bestInTree, testInTree}
 use Rattle.tree.specs.declared.ChainBest.{ChainBest}
 use Rattle.tree.specs.declared.ChainTest.{ChainTest}
-use Rattle.tree.proofs.Ways.{and-both}
 use Rattle.theory_tree.specs.View.{view}
 use Rattle.theory_tree.specs.Shape.{Shape, leaf, chain, All, WellFormed}
 use Rattle.theory_tree.specs.Versions.{ofKey, arrivals, when, better, merge, best}
+use Rattle.mvcc.specs.Snapshot.{Snapshot, snapshot}
+use Rattle.tree.proofs.Ways.{and-both}
 use Rattle.theory_tree.proofs.Workers.{flat, larger}
 use Rattle.theory_tree.proofs.Contexts.{Ctx, top, plug, preC, postC, Loc}
 use Rattle.theory_tree.proofs.Lists.{all-app}
@@ -124,33 +124,33 @@ less-last v key n (r ∷ rs) h = by-key (ofKey key r) refl (eqb (r .creator) n) 
     by-key true ea true eb false ed i = (ed, i)
     by-key true ea true eb true ed i = absurd (let l : r .creator < n = h .0 (rw (ea, ed)) in let q : r .creator ≡ n = eqb-true (r .creator) n eb in omega arith)
 
-module _ (st : ℕ → ℕ) (active : List ℕ) (xmax : ℕ) (cur : Current) (key : ℕ) where
+module _ (sn : Snapshot) (st : ℕ → ℕ) (key : ℕ) where
   abbrev pub seenBy : Row → Bool
-  seenBy r = visible st active xmax cur (r .creator) (r .stamp)
+  seenBy r = visible sn st (r .creator) (r .stamp)
 
   abbrev pub stepBest : Best → ℕ → List ℕ → Best
-  stepBest b p pg = foldCells (newest st active xmax cur p key) b (cells pg)
+  stepBest b p pg = foldCells (newest p key sn st) b (cells pg)
 
   says-best : (a : Best) (p : ℕ) (pg : List ℕ) (e : ℕ) → judgeLeaf p pg ≡ Judged.Ok e
-      → lookBest st active xmax cur key a p pg ≡ pick (larger key (rows pg)) (stop (stepBest a p pg)) (go (stepBest a p pg))
+      → lookBest key sn st a p pg ≡ pick (larger key (rows pg)) (stop (stepBest a p pg)) (go (stepBest a p pg))
   unfolding findLeaf
-  says-best a p pg e j = rw (j, larger-is key pg) (by-end (foldCells (newest st active xmax cur p key) a (cells pg)) (larger key (rows pg)))
+  says-best a p pg e j = rw (j, larger-is key pg) (by-end (foldCells (newest p key sn st) a (cells pg)) (larger key (rows pg)))
     where
       by-end : (b : Best) (l : Bool) → seenBest (LeafBest.Ok b l) ≡ pick l (stop b) (go b)
       by-end b true = refl
       by-end b false = refl
 
   fold-skips : (p : ℕ) (pg : List ℕ) (cs : List Cell) (a : Best) → All (λ (r : Row). ofKey key r ≡ false) (map (rowOf pg) cs)
-      → foldCells (newest st active xmax cur p key) a cs ≡ a
+      → foldCells (newest p key sn st) a cs ≡ a
   unfolding foldCells newest
   fold-skips p pg [] a o = refl
   fold-skips p pg (c ∷ cs) a o = rw (o .0) (fold-skips p pg cs a (o .1))
 
   -- one cell more
   newest-row : (s : List ℕ) (p : ℕ) (b : Best) (c : Cell)
-      → rowIn s (newest st active xmax cur p key b c) ≡ merge (when (ofKey key (rowOf (page p s) c) && seenBy (rowOf (page p s) c)) (rowOf (page p s) c)) (rowIn s b)
+      → rowIn s (newest p key sn st b c) ≡ merge (when (ofKey key (rowOf (page p s) c) && seenBy (rowOf (page p s) c)) (rowOf (page p s) c)) (rowIn s b)
   unfolding newest
-  newest-row s p b c = by-test (eqb (c .key) key && visible st active xmax cur (c .version .creator) (c .version .stamp)) b
+  newest-row s p b c = by-test (eqb (c .key) key && visible sn st (c .version .creator) (c .version .stamp)) b
     where
       by-less : (x : Bool) (q : ℕ) (o : Cell) → rowIn s (pick x (Best.At q o) (Best.At p c)) ≡ pick x (some (rowOf (page q s) o)) (some (rowOf (page p s) c))
       by-less true q o = refl
@@ -162,12 +162,12 @@ module _ (st : ℕ → ℕ) (active : List ℕ) (xmax : ℕ) (cur : Current) (ke
       by-test false b = refl
 
   fold-row : (s : List ℕ) (p : ℕ) (cs : List Cell) (b : Best)
-      → rowIn s (foldCells (newest st active xmax cur p key) b cs) ≡ merge (best seenBy key (map (rowOf (page p s)) cs)) (rowIn s b)
+      → rowIn s (foldCells (newest p key sn st) b cs) ≡ merge (best seenBy key (map (rowOf (page p s)) cs)) (rowIn s b)
   unfolding foldCells
   fold-row s p [] b = refl
   fold-row s p (c ∷ cs) b =
       let r = rowOf (page p s) c in
-      fold-row s p cs (newest st active xmax cur p key b c)
+      fold-row s p cs (newest p key sn st b c)
       ∙ (ap (merge (best seenBy key (map (rowOf (page p s)) cs))) (newest-row s p b c)
       ∙ sym (merge-assoc (best seenBy key (map (rowOf (page p s)) cs)) (when (ofKey key r && seenBy r) r) (rowIn s b)))
 
@@ -205,7 +205,7 @@ module _ (st : ℕ → ℕ) (active : List ℕ) (xmax : ℕ) (cur : Current) (ke
       let b = and-both (ofKey key (rowOf pg c)) (seenBy (rowOf pg c)) (rw e at t) in
       record { before = []; after = cs; is = ap (λ (x : Cell). x ∷ cs) e; of-key = b .0; seen = b .1; less = h }
 
-  cells-chosen : (p : ℕ) (pg : List ℕ) (cs : List Cell) (b : Best) (q : ℕ) (c : Cell) → foldCells (newest st active xmax cur p key) b cs ≡ Best.At q c
+  cells-chosen : (p : ℕ) (pg : List ℕ) (cs : List Cell) (b : Best) (q : ℕ) (c : Cell) → foldCells (newest p key sn st) b cs ≡ Best.At q c
       → Stays b q c (map (rowOf pg) cs) ⊎ ((q ≡ p) × InCells pg c cs)
   unfolding foldCells newest
   cells-chosen p pg [] b q c e = inl (e, tt)
@@ -277,7 +277,7 @@ module _ (st : ℕ → ℕ) (active : List ℕ) (xmax : ℕ) (cur : Current) (ke
 
   pub record BestIs (s : List ℕ) (root used : ℕ) (t : Shape) : Type 0 where
     pub found : Best
-    pub told : bestInTree st active xmax cur used root key s ≡ ChainBest.Ok found
+    pub told : bestInTree s used root key sn st ≡ ChainBest.Ok found
     pub row : rowIn s found ≡ best seenBy key (chain t)
     pub stands : StandsBy s t found
 
@@ -285,12 +285,12 @@ module _ (st : ℕ → ℕ) (active : List ℕ) (xmax : ℕ) (cur : Current) (ke
     leaves : All (AtLeaf s used) (locs t top)
     leaves = at-leaves s root used t f (locs t top) (locs-plug t top)
 
-    pub best-told : bestInTree st active xmax cur used root key s ≡ ChainBest.Ok (gather stepBest s Best.Nothing (locs t top))
+    pub best-told : bestInTree s used root key sn st ≡ ChainBest.Ok (gather stepBest s Best.Nothing (locs t top))
     unfolding bestInTree bestAlong
     best-told =
         rw (
           descend-search s root used t f key,
-          walk-key (lookBest st active xmax cur key) key stepBest says-best (λ a p pg e j o. fold-skips p pg (cells pg) a o) s root used t f Best.Nothing,
+          walk-key (lookBest key sn st) key stepBest says-best (λ a p pg e j o. fold-skips p pg (cells pg) a o) s root used t f Best.Nothing,
         )
 
     pub best-is : BestIs s root used t
@@ -316,40 +316,40 @@ some-app : (q : Row → Bool) (xs ys : List Row) → some? q (xs ++ ys) ≡ (som
 some-app q [] ys = refl
 some-app q (x ∷ xs) ys = ap (λ (b : Bool). q x || b) (some-app q xs ys) ∙ sym (or-assoc (q x) (some? q xs) (some? q ys))
 
-module _ (claiming : Bool) (st : ℕ → ℕ) (active : List ℕ) (xmax : ℕ) (cur : Current) (seen key : ℕ) where
+module _ (claiming : Bool) (sn : Snapshot) (st : ℕ → ℕ) (seen key : ℕ) where
   abbrev pub meets : Row → Bool
-  meets r = ofKey key r && testOf claiming st active xmax cur seen (r .creator) (r .stamp)
+  meets r = ofKey key r && testOf sn st claiming seen (r .creator) (r .stamp)
 
   abbrev pub stepTest : Bool → ℕ → List ℕ → Bool
-  stepTest b p pg = foldCells (joined claiming st active xmax cur seen key) b (cells pg)
+  stepTest b p pg = foldCells (joined key sn st claiming seen) b (cells pg)
 
   says-test : (a : Bool) (p : ℕ) (pg : List ℕ) (e : ℕ) → judgeLeaf p pg ≡ Judged.Ok e
-      → lookTest claiming st active xmax cur seen key a p pg ≡ pick (larger key (rows pg)) (stop (stepTest a p pg)) (go (stepTest a p pg))
+      → lookTest key sn st claiming seen a p pg ≡ pick (larger key (rows pg)) (stop (stepTest a p pg)) (go (stepTest a p pg))
   unfolding testLeaf
-  says-test a p pg e j = rw (j, larger-is key pg) (by-end (foldCells (joined claiming st active xmax cur seen key) a (cells pg)) (larger key (rows pg)))
+  says-test a p pg e j = rw (j, larger-is key pg) (by-end (foldCells (joined key sn st claiming seen) a (cells pg)) (larger key (rows pg)))
     where
       by-end : (b l : Bool) → seenTest (LeafTest.Ok b l) ≡ pick l (stop b) (go b)
       by-end b true = refl
       by-end b false = refl
 
-  fold-some : (pg : List ℕ) (cs : List Cell) (a : Bool) → foldCells (joined claiming st active xmax cur seen key) a cs ≡ (a || some? meets (map (rowOf pg) cs))
+  fold-some : (pg : List ℕ) (cs : List Cell) (a : Bool) → foldCells (joined key sn st claiming seen) a cs ≡ (a || some? meets (map (rowOf pg) cs))
   unfolding foldCells joined
   fold-some pg [] a = sym (or-false a)
   fold-some pg (c ∷ cs) a =
-      fold-some pg cs (a || (eqb (c .key) key && testOf claiming st active xmax cur seen (c .version .creator) (c .version .stamp)))
-      ∙ or-assoc a (eqb (c .key) key && testOf claiming st active xmax cur seen (c .version .creator) (c .version .stamp)) (some? meets (map (rowOf pg) cs))
+      fold-some pg cs (a || (eqb (c .key) key && testOf sn st claiming seen (c .version .creator) (c .version .stamp)))
+      ∙ or-assoc a (eqb (c .key) key && testOf sn st claiming seen (c .version .creator) (c .version .stamp)) (some? meets (map (rowOf pg) cs))
 
   none-meets : (rs : List Row) → All (λ (r : Row). ofKey key r ≡ false) rs → some? meets rs ≡ false
   none-meets [] o = refl
   none-meets (r ∷ rs) o = rw (o .0) (none-meets rs (o .1))
 
   pub test-is : (s : List ℕ) (root used : ℕ) (t : Shape) → WellFormed (view s) root used t
-      → testInTree claiming st active xmax cur used root seen key s ≡ ChainTest.Ok (some? meets (chain t))
+      → testInTree s used root key sn st claiming seen ≡ ChainTest.Ok (some? meets (chain t))
   unfolding testInTree testAlong
   test-is s root used t f =
       rw (
         descend-search s root used t f key,
-        walk-key (lookTest claiming st active xmax cur seen key) key stepTest says-test
+        walk-key (lookTest key sn st claiming seen) key stepTest says-test
             (λ a p pg e j o. fold-some pg (cells pg) a ∙ (ap (λ (b : Bool). a || b) (none-meets (rows pg) o) ∙ or-false a)) s root used t f false,
       )
       (ap (λ (b : Bool). ChainTest.Ok b)

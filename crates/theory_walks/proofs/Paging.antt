@@ -17,16 +17,16 @@ use Rattle.row.specs.declared.read.CellRead.{CellRead}
 use Rattle.leaf.specs.Cells.{onCell, cellsOf, cells, inOrder, stepOf, onStep, judgeCells, judgeLeaf}
 use Rattle.leaf.specs.Rows.{Row, rowOf, rows}
 use Rattle.leaf.specs.declared.Judged.{Judged}
-use Rattle.leaf.proofs.Walking.{step-in, leaf-cells}
-use Rattle.leaf.proofs.Rowing.{endOf}
-use Rattle.leaf.proofs.Chain.{Rising}
 use Rattle.inner.specs.Inner.{keysFrom, keysOf, childrenOf, neverFalls, judgeInner}
 use Rattle.inner.specs.declared.InnerJudged.{InnerJudged}
-use Rattle.inner.proofs.Routing.{judge-ok}
-use Rattle.tree.proofs.Ways.{and-both}
 use Rattle.theory_tree.specs.Pages.{leafPage, innerPage}
 use Rattle.theory_tree.specs.View.{view}
 use Rattle.theory_tree.specs.Shape.{Shape, leaf, node, pair, head, rest, All, Sorted, Bounded}
+use Rattle.leaf.proofs.Walking.{step-in, leaf-cells}
+use Rattle.leaf.proofs.Rowing.{endOf}
+use Rattle.leaf.proofs.Chain.{Rising}
+use Rattle.inner.proofs.Routing.{judge-ok}
+use Rattle.tree.proofs.Ways.{and-both}
 use Rattle.theory_tree.proofs.Says.{LeafSays, InnerSays, leaf-says, inner-says, entries-length, entries-of, kids-of}
 use Rattle.theory_tree.proofs.Entries.{kids}
 use Rattle.theory_tree.proofs.Order.{bnd-le}

@@ -15,10 +15,10 @@ use Rattle.leaf.specs.Cells.{judgeLeaf}
 use Rattle.leaf.specs.Rows.{Row, rows}
 use Rattle.leaf.specs.declared.Judged.{Judged}
 use Rattle.tree.specs.Chain.{Seen, stop, go, ok, along}
-use Rattle.tree.proofs.Ways.{along-last, along-end, along-on}
 use Rattle.theory_tree.specs.View.{view}
-use Rattle.theory_tree.specs.Shape.{Shape, leaf, node, pair, chain, pages, first, All, KeysIn, Bounded, WellFormed}
+use Rattle.theory_tree.specs.Shape.{Shape, leaf, node, pair, chain, pagesIn, first, All, KeysIn, Bounded, WellFormed}
 use Rattle.theory_tree.specs.Versions.{ofKey}
+use Rattle.tree.proofs.Ways.{along-last, along-end, along-on}
 use Rattle.theory_tree.proofs.Says.{LeafSays}
 use Rattle.theory_tree.proofs.Workers.{flat, from, larger}
 use Rattle.theory_tree.proofs.Contexts.{Ctx, top, inL, inR, under, plug, preG, postC, postG, parC, nxtC, Loc}
@@ -258,8 +258,8 @@ module _ {A : Type 0} (look : A → ℕ → List ℕ → Seen A) (ends : List Ro
   walk-from m p a (l ∷ ls) n e h k o = ap (λ (q : ℕ). along look used m a q s) (sym (e 0)) ∙ walk-list m a l ls n h k o
 
   module _ (root : ℕ) (t : Shape) (f : WellFormed (view s) root used t) where
-    few : length (pages t) ≤ used
-    few = pigeon used (pages t) (f .distinct) (f .below)
+    few : length (pagesIn t) ≤ used
+    few = pigeon used (pagesIn t) (f .distinct) (f .below)
 
     -- from where search for a key comes to, and from the first leaf
     pub walk-search : (key : ℕ) (a : A) → along look used used a (leafOf key t) s ≡ ok (gather step s a (upTo ends (froms key t top)))

@@ -15,11 +15,13 @@ use Rattle.store.specs.Part.{pad, zeros}
 use Rattle.page.specs.Page.{page}
 use Rattle.page.specs.Header.{parentOf}
 use Rattle.row.specs.declared.Fault.{Fault}
-use Rattle.inner.specs.Inner.{childAt, childrenFrom, judgeInner, structural}
+use Rattle.inner.specs.Inner.{childAt, childrenFrom, judgeInner}
+use Rattle.row.specs.Fault.{structural}
 use Rattle.inner.specs.Route.{firstWhere, childPlace}
 use Rattle.inner.specs.declared.InnerJudged.{InnerJudged}
 use Rattle.tree.specs.Descend.{onInner}
-use Rattle.tree.specs.Climb.{aboveFrom, aboveOf, onAbove, Way, up, astray, below, rootWay, climbOf, pathOf, arrived, lost, climbed, topOf}
+use Rattle.tree.specs.Climb.{aboveFrom, aboveOf, onAbove, Way, up, astray, wayFrom, rootWay, climbOf, pathOf, arrived, lost, climbed}
+use Rattle.tree.specs.Steps.Climb.{atRoot}
 use Rattle.tree.specs.declared.climb.Path.{Path}
 use Rattle.tree.specs.declared.climb.Climbed.{Climbed}
 use Rattle.tree.specs.declared.climb.Above.{Above}
@@ -66,10 +68,10 @@ module _ (used p : ℕ) (s : List ℕ) {pg₀ : List ℕ} {q : ℕ} (low : pg₀
 -- ---- at the root
 
 module _ (p : ℕ) (path : Path) (s : List ℕ) {pg : List ℕ} {q : ℕ} (here : pg ≡ page p s) (parent : q ≡ parentOf pg) where
-  pub top-root : q ≡ 0 → arrived path ≡ topOf p path s
+  pub top-root : q ≡ 0 → arrived path ≡ atRoot p path s
   top-root e = rw (eq-eqb (parentOf (page p s)) 0 (rw (parent, here) at e))
 
-  pub top-lost : {f : Fault} {r : Climbed} → (q ≡ 0 → ⊥) → f ≡ structural p → r ≡ lost f → r ≡ topOf p path s
+  pub top-lost : {f : Fault} {r : Climbed} → (q ≡ 0 → ⊥) → f ≡ structural p → r ≡ lost f → r ≡ atRoot p path s
   top-lost z e u = u ∙ rw (e, ne-eqb (parentOf (page p s)) 0 (λ d. z (parent ∙ rw here d)))
 
 -- ---- the climb that collects
@@ -79,12 +81,12 @@ stepPath path p = record { pages = set (path .pages) (path .len) p; len = path .
 
 -- from page p, which path does not hold yet, with k more levels above it at most
 unfoldable pub climbFrom : (k : ℕ) → (used root p : ℕ) → Path → List ℕ → Climbed
-climbFrom zero used root p path s = pick (eqb p root) (topOf p (stepPath path p) s) (lost (structural p))
+climbFrom zero used root p path s = pick (eqb p root) (atRoot p (stepPath path p) s) (lost (structural p))
 climbFrom (suc k) used root p path s =
-    pick (eqb p root) (topOf p (stepPath path p) s) (onAbove (λ q. climbFrom k used root q (stepPath path p) s) (λ f. lost f) (aboveOf used p s))
+    pick (eqb p root) (atRoot p (stepPath path p) s) (onAbove (λ q. climbFrom k used root q (stepPath path p) s) (λ f. lost f) (aboveOf used p s))
 
 module _ (used root p : ℕ) (path : Path) (s : List ℕ) where
-  pub climb-root : (k : ℕ) {r : Climbed} → p ≡ root → r ≡ topOf p (stepPath path p) s → r ≡ climbFrom k used root p path s
+  pub climb-root : (k : ℕ) {r : Climbed} → p ≡ root → r ≡ atRoot p (stepPath path p) s → r ≡ climbFrom k used root p path s
   unfolding climbFrom
   climb-root zero h e = e ∙ rw (eq-eqb p root h)
   climb-root (suc k) h e = e ∙ rw (eq-eqb p root h)
@@ -114,7 +116,7 @@ abbrev after : List ℕ → Way → Way
 after xs (up ps) = up (xs ++ ps)
 after xs (astray f) = astray f
 
-after-below : (xs : List ℕ) (p : ℕ) (w : Way) → after (xs ++ (p ∷ [])) w ≡ after xs (below p w)
+after-below : (xs : List ℕ) (p : ℕ) (w : Way) → after (xs ++ (p ∷ [])) w ≡ after xs (wayFrom p w)
 after-below xs p (up ps) = ap (λ (l : List ℕ). up l) (append-snoc xs p ps)
 after-below xs p (astray f) = refl
 
@@ -126,7 +128,7 @@ path-step xs p h =
     let n : 4 - (length xs + 1) ≡ 3 - length xs = omega arith in
     rw (l, m, n, set-append-seam xs 0 (zeros (3 - length xs)) p, append-snoc xs p (zeros (3 - length xs)))
 
-root-is : (p : ℕ) (xs : List ℕ) (s : List ℕ) → length xs < 4 → topOf p (stepPath (pathOf xs) p) s ≡ climbed (after xs (rootWay p s))
+root-is : (p : ℕ) (xs : List ℕ) (s : List ℕ) → length xs < 4 → atRoot p (stepPath (pathOf xs) p) s ≡ climbed (after xs (rootWay p s))
 root-is p xs s h = rw (path-step xs p h) (by-parent (eqb (parentOf (page p s)) 0))
   where
     by-parent : (b : Bool) → pick b (arrived (pathOf (xs ++ (p ∷ [])))) (lost (structural p)) ≡ climbed (after xs (pick b (up (p ∷ [])) (astray (structural p))))
@@ -137,7 +139,7 @@ from-is : (k used root p : ℕ) (xs : List ℕ) (s : List ℕ) → length xs + k
 unfolding climbFrom climbOf
 from-is zero used root p xs s h = by-root (eqb p root)
   where
-    by-root : (b : Bool) → pick b (topOf p (stepPath (pathOf xs) p) s) (lost (structural p)) ≡ climbed (after xs (pick b (rootWay p s) (astray (structural p))))
+    by-root : (b : Bool) → pick b (atRoot p (stepPath (pathOf xs) p) s) (lost (structural p)) ≡ climbed (after xs (pick b (rootWay p s) (astray (structural p))))
     by-root true = root-is p xs s (omega arith)
     by-root false = refl
 from-is (suc k) used root p xs s h =
@@ -148,9 +150,9 @@ from-is (suc k) used root p xs s h =
     ∙ (from-is k used root q (xs ++ (p ∷ [])) s (omega arith) ∙ ap climbed (after-below xs p (climbOf k used root q s))))
     (eqb p root) (aboveOf used p s)
   where
-    by-root : ((q : ℕ) → climbFrom k used root q (stepPath (pathOf xs) p) s ≡ climbed (after xs (below p (climbOf k used root q s)))) → (b : Bool) (a : Above)
-        → pick b (topOf p (stepPath (pathOf xs) p) s) (onAbove (λ q. climbFrom k used root q (stepPath (pathOf xs) p) s) (λ f. lost f) a)
-        ≡ climbed (after xs (pick b (rootWay p s) (onAbove (λ q. below p (climbOf k used root q s)) (λ f. astray f) a)))
+    by-root : ((q : ℕ) → climbFrom k used root q (stepPath (pathOf xs) p) s ≡ climbed (after xs (wayFrom p (climbOf k used root q s)))) → (b : Bool) (a : Above)
+        → pick b (atRoot p (stepPath (pathOf xs) p) s) (onAbove (λ q. climbFrom k used root q (stepPath (pathOf xs) p) s) (λ f. lost f) a)
+        ≡ climbed (after xs (pick b (rootWay p s) (onAbove (λ q. wayFrom p (climbOf k used root q s)) (λ f. astray f) a)))
     by-root ih true a = root-is p xs s (omega arith)
     by-root ih false (Above.Page q) = ih q
     by-root ih false (Above.Bad f) = refl
@@ -247,7 +249,7 @@ module _ (used root : ℕ) (s : List ℕ) where
       by-root false q u = absurd (let z : _≡_ {A = ℕ} 0 1 = cc in omega arith)
   climb-risen (suc k) p {ps} e = by-root (λ q qs u. climb-risen k q {ps = qs} u) (eqb p root) refl e
     where
-      by-way : (q : ℕ) (w : Way) → ((qs : List ℕ) → w ≡ up qs → Risen k used root q s qs) → (p ≡ root → ⊥) → Held used p q s → below p w ≡ up ps → Risen (suc k) used root p s ps
+      by-way : (q : ℕ) (w : Way) → ((qs : List ℕ) → w ≡ up qs → Risen k used root q s qs) → (p ≡ root → ⊥) → Held used p q s → wayFrom p w ≡ up ps → Risen (suc k) used root p s ps
       by-way q (up qs) ih z h u =
           let r = ih qs refl in
           let e = r .is in
@@ -256,12 +258,12 @@ module _ (used root : ℕ) (s : List ℕ) where
       by-way q (astray f) ih z h u = absurd (let z : _≡_ {A = ℕ} 0 1 = cc in omega arith)
 
       by-above : ((q : ℕ) (qs : List ℕ) → climbOf k used root q s ≡ up qs → Risen k used root q s qs) → (p ≡ root → ⊥) → (a : Above) → aboveOf used p s ≡ a
-          → onAbove (λ q. below p (climbOf k used root q s)) (λ f. astray f) a ≡ up ps → Risen (suc k) used root p s ps
+          → onAbove (λ q. wayFrom p (climbOf k used root q s)) (λ f. astray f) a ≡ up ps → Risen (suc k) used root p s ps
       by-above ih z (Above.Page q) t u = by-way q (climbOf k used root q s) (ih q) z (held used p s t) u
       by-above ih z (Above.Bad f) t u = absurd (let z : _≡_ {A = ℕ} 0 1 = cc in omega arith)
 
       by-root : ((q : ℕ) (qs : List ℕ) → climbOf k used root q s ≡ up qs → Risen k used root q s qs) → (b : Bool) → eqb p root ≡ b
-          → pick b (rootWay p s) (onAbove (λ q. below p (climbOf k used root q s)) (λ f. astray f) (aboveOf used p s)) ≡ up ps → Risen (suc k) used root p s ps
+          → pick b (rootWay p s) (onAbove (λ q. wayFrom p (climbOf k used root q s)) (λ f. astray f) (aboveOf used p s)) ≡ up ps → Risen (suc k) used root p s ps
       by-root ih true q u = root-risen (suc k) p (eqb-true p root q) u
       by-root ih false q u = by-above ih (eqb-false p root q) (aboveOf used p s) refl u
 

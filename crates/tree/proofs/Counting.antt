@@ -12,9 +12,8 @@ use Rattle.store.specs.Pick.{pick}
 use Rattle.page.specs.Page.{page}
 use Rattle.page.specs.Header.{nextLeaf}
 use Rattle.row.specs.declared.Fault.{Fault}
-use Rattle.inner.specs.Inner.{structural}
+use Rattle.row.specs.Fault.{structural}
 use Rattle.mvcc.specs.Lists.{mem}
-use Rattle.mvcc.specs.declared.Current.{Current}
 use Rattle.leaf.specs.Cells.{cells, judgeLeaf, onJudged, hasLarger}
 use Rattle.leaf.specs.Find.{findLeaf, testLeaf}
 use Rattle.leaf.specs.declared.Judged.{Judged}
@@ -22,8 +21,9 @@ use Rattle.leaf.specs.declared.find.Best.{Best}
 use Rattle.leaf.specs.declared.find.LeafBest.{LeafBest}
 use Rattle.leaf.specs.declared.find.LeafTest.{LeafTest}
 use Rattle.tree.specs.Chain.{Seen, stop, go, broken, Told, ok, ill, along, seenBest, seenTest, lookBest, lookTest}
-use Rattle.tree.specs.ChainFacts.{met, turn, Steady, CountIsEnough, Ill, TwiceIsIll}
+use Rattle.tree.specs.ChainFacts.{meets, turn, Steady, CountIsEnough, Ill, TwiceIsIll}
 use Rattle.tree.specs.Distinct.{distinct}
+use Rattle.mvcc.specs.Snapshot.{Snapshot}
 use Rattle.tree.proofs.Ways.{and-both}
 
 -- ---- numbers that stand once each
@@ -97,14 +97,14 @@ module _ {A : Type 0} (look : A → ℕ → List ℕ → Seen A) (used : ℕ) (s
 
   -- the page is not in use; or the walk ends there; or it goes on
   data View (a : A) (p : ℕ) : Type 0 where
-    out : used ≤ p → ((m : ℕ) → along look used (suc m) a p s ≡ ill (structural p)) → ((m : ℕ) → met look used (suc m) a p s ≡ []) → View a p
+    out : used ≤ p → ((m : ℕ) → along look used (suc m) a p s ≡ ill (structural p)) → ((m : ℕ) → meets look used (suc m) a p s ≡ []) → View a p
     last : (t : Told A) → p < used → (turn (look a p (page p s)) ≡ 1 → (next p ≡ 0 → ⊥) → ⊥) → ((m : ℕ) → along look used (suc m) a p s ≡ t)
-        → ((m : ℕ) → met look used (suc m) a p s ≡ p ∷ []) → View a p
+        → ((m : ℕ) → meets look used (suc m) a p s ≡ p ∷ []) → View a p
     on : (b : A) → p < used → turn (look a p (page p s)) ≡ 1 → (next p ≡ 0 → ⊥) → ((m : ℕ) → along look used (suc m) a p s ≡ along look used m b (next p) s)
-        → ((m : ℕ) → met look used (suc m) a p s ≡ p ∷ met look used m b (next p) s) → View a p
+        → ((m : ℕ) → meets look used (suc m) a p s ≡ p ∷ meets look used m b (next p) s) → View a p
 
   view : (a : A) (p : ℕ) → View a p
-  unfolding along met
+  unfolding along meets
   view a p = by-tests (ltb p used) refl (look a p (page p s)) refl (eqb (next p) 0) refl
     where
       by-tests : (t : Bool) → ltb p used ≡ t → (r : Seen A) → look a p (page p s) ≡ r → (z : Bool) → eqb (next p) 0 ≡ z → View a p
@@ -114,18 +114,18 @@ module _ {A : Type 0} (look : A → ℕ → List ℕ → Seen A) (used : ℕ) (s
       by-tests true l (go b) q true e = last (ok b) (ltb-true p used l) (λ t n. n (eqb-true (next p) 0 e)) (λ m. rw (l, q, e)) (λ m. rw (l, q, e))
       by-tests true l (go b) q false e = on b (ltb-true p used l) (rw q) (eqb-false (next p) 0 e) (λ m. rw (l, q, e)) (λ m. rw (l, q, e))
 
-  met-below : (m : ℕ) (a : A) (p : ℕ) → AllBelow used (met look used m a p s)
-  unfolding met
+  met-below : (m : ℕ) (a : A) (p : ℕ) → AllBelow used (meets look used m a p s)
+  unfolding meets
   met-below zero a p = tt
   met-below (suc m) a p = by-view (view a p) (λ b. met-below m b (next p))
     where
-      by-view : View a p → ((b : A) → AllBelow used (met look used m b (next p) s)) → AllBelow used (met look used (suc m) a p s)
+      by-view : View a p → ((b : A) → AllBelow used (meets look used m b (next p) s)) → AllBelow used (meets look used (suc m) a p s)
       by-view (out h w v) ih = subst (AllBelow used) (sym (v m)) tt
       by-view (last t h n w v) ih = subst (AllBelow used) (sym (v m)) (h, tt)
       by-view (on b h g n w v) ih = subst (AllBelow used) (sym (v m)) (h, ih b)
 
   -- where at most k pages are met, k is enough
-  along-same : (k m : ℕ) (a : A) (p : ℕ) → k ≤ m → length (met look used m a p s) ≤ k → along look used m a p s ≡ along look used k a p s
+  along-same : (k m : ℕ) (a : A) (p : ℕ) → k ≤ m → length (meets look used m a p s) ≤ k → along look used m a p s ≡ along look used k a p s
   unfolding along
   along-same zero zero a p h l = refl
   along-same (suc k) zero a p h l = absurd (omega arith)
@@ -133,20 +133,20 @@ module _ {A : Type 0} (look : A → ℕ → List ℕ → Seen A) (used : ℕ) (s
     where
       by-view : View a p → along look used (suc m) a p s ≡ ill (structural p)
       by-view (out h w v) = w m
-      by-view (last t h n w v) = absurd (let e : length (met look used (suc m) a p s) ≡ 1 = ap length (v m) in omega arith)
-      by-view (on b h g n w v) = absurd (let e : length (met look used (suc m) a p s) ≡ suc (length (met look used m b (next p) s)) = ap length (v m) in omega arith)
+      by-view (last t h n w v) = absurd (let e : length (meets look used (suc m) a p s) ≡ 1 = ap length (v m) in omega arith)
+      by-view (on b h g n w v) = absurd (let e : length (meets look used (suc m) a p s) ≡ suc (length (meets look used m b (next p) s)) = ap length (v m) in omega arith)
   along-same (suc k) (suc m) a p h l = by-view (view a p) (λ b i. along-same k m b (next p) (omega arith) i)
     where
-      by-view : View a p → ((b : A) → length (met look used m b (next p) s) ≤ k → along look used m b (next p) s ≡ along look used k b (next p) s)
+      by-view : View a p → ((b : A) → length (meets look used m b (next p) s) ≤ k → along look used m b (next p) s ≡ along look used k b (next p) s)
           → along look used (suc m) a p s ≡ along look used (suc k) a p s
       by-view (out h w v) ih = w m ∙ sym (w k)
       by-view (last t h n w v) ih = w m ∙ sym (w k)
       by-view (on b h g n w v) ih =
-          let e : length (met look used (suc m) a p s) ≡ suc (length (met look used m b (next p) s)) = ap length (v m) in
+          let e : length (meets look used (suc m) a p s) ≡ suc (length (meets look used m b (next p) s)) = ap length (v m) in
           w m ∙ (ih b (omega arith) ∙ sym (w k))
 
 pub count-is-enough : (A : Type 0) → CountIsEnough A
-count-is-enough A look used m a p s h d = along-same look used s used m a p h (pigeonhole used (met look used m a p s) (met-below look used s m a p) d)
+count-is-enough A look used m a p s h d = along-same look used s used m a p h (pigeonhole used (meets look used m a p s) (met-below look used s m a p) d)
 
 -- ---- a walk that comes back
 
@@ -177,8 +177,8 @@ module _ {A : Type 0} (look : A → ℕ → List ℕ → Seen A) (steady : Stead
       by-view (on b h g n w v) ih = record { fault = ih b .fault; is = w k ∙ ih b .is }
 
   -- a page that is met runs no longer than the page where the walk began
-  met-runs : (m : ℕ) (a : A) (p x : ℕ) → mem x (met look used m a p s) ≡ true → (k : ℕ) → Runs k x → Runs k p
-  unfolding mem met
+  met-runs : (m : ℕ) (a : A) (p x : ℕ) → mem x (meets look used m a p s) ≡ true → (k : ℕ) → Runs k x → Runs k p
+  unfolding mem meets
   met-runs zero a p x e k r = absurd (let z : _≡_ {A = ℕ} 0 1 = cc in omega arith)
   met-runs (suc m) a p x e k r = by-view (view look used s a p) (λ b i. met-runs m b (nextLeaf (page p s)) x i k r)
     where
@@ -186,11 +186,11 @@ module _ {A : Type 0} (look : A → ℕ → List ℕ → Seen A) (steady : Stead
       by-test true q l ih u = subst (Runs k) (sym (eqb-true p x q)) r
       by-test false q l ih u = ih u
 
-      by-view : View look used s a p → ((b : A) → mem x (met look used m b (nextLeaf (page p s)) s) ≡ true → Runs k (nextLeaf (page p s))) → Runs k p
+      by-view : View look used s a p → ((b : A) → mem x (meets look used m b (nextLeaf (page p s)) s) ≡ true → Runs k (nextLeaf (page p s))) → Runs k p
       by-view (out h w v) ih = absurd (let z : _≡_ {A = Bool} false true = ap (mem x) (sym (v m)) ∙ e in let y : _≡_ {A = ℕ} 0 1 = cc in omega arith)
       by-view (last t h n w v) ih = by-test (eqb p x) refl [] (λ u. absurd (let z : _≡_ {A = ℕ} 0 1 = cc in omega arith)) (ap (mem x) (sym (v m)) ∙ e)
       by-view (on b h g n w v) ih =
-          by-test (eqb p x) refl (met look used m b (nextLeaf (page p s)) s)
+          by-test (eqb p x) refl (meets look used m b (nextLeaf (page p s)) s)
           (λ u. runs-less k p (record { in-use = h; turns = λ c. steady c a p (page p s) ∙ g; more = n }, ih b u))
           (ap (mem x) (sym (v m)) ∙ e)
 
@@ -198,22 +198,22 @@ module _ {A : Type 0} (look : A → ℕ → List ℕ → Seen A) (steady : Stead
   back-runs p g f zero = tt
   back-runs p g f (suc k) = (g, f k (back-runs p g f k))
 
-  twice-runs : (m : ℕ) (a : A) (p : ℕ) → distinct (met look used m a p s) ≡ false → (k : ℕ) → Runs k p
-  unfolding distinct mem met
+  twice-runs : (m : ℕ) (a : A) (p : ℕ) → distinct (meets look used m a p s) ≡ false → (k : ℕ) → Runs k p
+  unfolding distinct mem meets
   twice-runs zero a p e = absurd (let z : _≡_ {A = ℕ} 0 1 = cc in omega arith)
   twice-runs (suc m) a p e = by-view (view look used s a p) (λ b i. twice-runs m b (nextLeaf (page p s)) i)
     where
-      by-mem : Goes p → (b : A) (t : Bool) → mem p (met look used m b (nextLeaf (page p s)) s) ≡ t
-          → (distinct (met look used m b (nextLeaf (page p s)) s) ≡ false → (k : ℕ) → Runs k (nextLeaf (page p s)))
-          → (not t && distinct (met look used m b (nextLeaf (page p s)) s)) ≡ false → (k : ℕ) → Runs k p
+      by-mem : Goes p → (b : A) (t : Bool) → mem p (meets look used m b (nextLeaf (page p s)) s) ≡ t
+          → (distinct (meets look used m b (nextLeaf (page p s)) s) ≡ false → (k : ℕ) → Runs k (nextLeaf (page p s)))
+          → (not t && distinct (meets look used m b (nextLeaf (page p s)) s)) ≡ false → (k : ℕ) → Runs k p
       by-mem g b true q ih u k = back-runs p g (met-runs m b (nextLeaf (page p s)) p q) k
       by-mem g b false q ih u k = runs-less k p (g, ih u k)
 
-      by-view : View look used s a p → ((b : A) → distinct (met look used m b (nextLeaf (page p s)) s) ≡ false → (k : ℕ) → Runs k (nextLeaf (page p s))) → (k : ℕ) → Runs k p
+      by-view : View look used s a p → ((b : A) → distinct (meets look used m b (nextLeaf (page p s)) s) ≡ false → (k : ℕ) → Runs k (nextLeaf (page p s))) → (k : ℕ) → Runs k p
       by-view (out h w v) ih = absurd (let z : _≡_ {A = Bool} true false = ap distinct (sym (v m)) ∙ e in let y : _≡_ {A = ℕ} 0 1 = cc in omega arith)
       by-view (last t h n w v) ih = absurd (let z : _≡_ {A = Bool} true false = ap distinct (sym (v m)) ∙ e in let y : _≡_ {A = ℕ} 0 1 = cc in omega arith)
       by-view (on b h g n w v) ih =
-          by-mem (record { in-use = h; turns = λ c. steady c a p (page p s) ∙ g; more = n }) b (mem p (met look used m b (nextLeaf (page p s)) s)) refl (ih b) (ap distinct (sym (v m)) ∙ e)
+          by-mem (record { in-use = h; turns = λ c. steady c a p (page p s) ∙ g; more = n }) b (mem p (meets look used m b (nextLeaf (page p s)) s)) refl (ih b) (ap distinct (sym (v m)) ∙ e)
 
 pub twice-is-ill : (A : Type 0) → TwiceIsIll A
 twice-is-ill A look steady used m a p s d = runs-ill look steady used s used a p (twice-runs look steady used s m a p d used)
@@ -230,14 +230,14 @@ best-turn : (a b : Best) (l : Bool) → turn (seenBest (LeafBest.Ok a l)) ≡ tu
 best-turn a b true = refl
 best-turn a b false = refl
 
-pub steady-best : (st : ℕ → ℕ) (active : List ℕ) (xmax : ℕ) (cur : Current) (key : ℕ) → Steady (lookBest st active xmax cur key)
+pub steady-best : (sn : Snapshot) (st : ℕ → ℕ) (key : ℕ) → Steady (lookBest key sn st)
 unfolding findLeaf
-steady-best st active xmax cur key a b p pg = by-leaf seenBest (λ x l. LeafBest.Ok x l) (λ f. LeafBest.Bad f) best-turn _ _ (hasLarger key (cells pg)) (judgeLeaf p pg)
+steady-best sn st key a b p pg = by-leaf seenBest (λ x l. LeafBest.Ok x l) (λ f. LeafBest.Bad f) best-turn _ _ (hasLarger key (cells pg)) (judgeLeaf p pg)
 
 test-turn : (a b l : Bool) → turn (seenTest (LeafTest.Ok a l)) ≡ turn (seenTest (LeafTest.Ok b l))
 test-turn a b true = refl
 test-turn a b false = refl
 
-pub steady-test : (claiming : Bool) (st : ℕ → ℕ) (active : List ℕ) (xmax : ℕ) (cur : Current) (seen key : ℕ) → Steady (lookTest claiming st active xmax cur seen key)
+pub steady-test : (claiming : Bool) (sn : Snapshot) (st : ℕ → ℕ) (seen key : ℕ) → Steady (lookTest key sn st claiming seen)
 unfolding testLeaf
-steady-test claiming st active xmax cur seen key a b p pg = by-leaf seenTest (λ x l. LeafTest.Ok x l) (λ f. LeafTest.Bad f) test-turn _ _ (hasLarger key (cells pg)) (judgeLeaf p pg)
+steady-test claiming sn st seen key a b p pg = by-leaf seenTest (λ x l. LeafTest.Ok x l) (λ f. LeafTest.Bad f) test-turn _ _ (hasLarger key (cells pg)) (judgeLeaf p pg)

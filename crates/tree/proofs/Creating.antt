@@ -5,10 +5,10 @@ use Prim.Native.Nat.{ℕ, _+_, _-_, _*_}
 use borrow.Rule.Slice.PartMut.{midOf, putMid}
 use Rattle.page.specs.Pool.{allocated, nextPage, withFresh}
 use Rattle.page.specs.Header.{withNodeType, withIsRoot}
-use Rattle.page.proofs.PageLaws.{back-page, lent-page}
 use Rattle.page.specs.declared.pool.State.{State}
 use Rattle.page.specs.declared.pool.Allocated.{Allocated}
 use Rattle.tree.specs.Create.{rooted, createdPool}
+use Rattle.page.proofs.PageLaws.{back-page, lent-page}
 
 module _ (s : List ℕ) (st : State) {f : Allocated} (given : f ≡ allocated s st) where
   pub root-state : record { root = f .page; used = f .state .used } ≡ rooted s st

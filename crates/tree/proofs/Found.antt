@@ -12,10 +12,8 @@ use Rattle.page.specs.Header.{nextLeaf, cellCount}
 use Rattle.row.specs.Read.{cellAt}
 use Rattle.row.specs.declared.Cell.{Cell}
 use Rattle.row.specs.declared.read.CellRead.{CellRead}
-use Rattle.row.proofs.Exact.{cell-placed}
-use Rattle.inner.specs.Inner.{structural}
+use Rattle.row.specs.Fault.{structural}
 use Rattle.mvcc.specs.Rules.{visible}
-use Rattle.mvcc.specs.declared.Current.{Current}
 use Rattle.leaf.specs.Cells.{onCell, cellsOf, cells, foldCells, judgeLeaf, onJudged, hasLarger}
 use Rattle.leaf.specs.Find.{later, newest, findLeaf}
 use Rattle.leaf.specs.declared.Judged.{Judged}
@@ -23,6 +21,8 @@ use Rattle.leaf.specs.declared.find.Best.{Best}
 use Rattle.leaf.specs.declared.find.LeafBest.{LeafBest}
 use Rattle.tree.specs.Chain.{Told, ok, ill, onSeen, along, seenBest, toldBest, lookBest, bestAlong}
 use Rattle.tree.specs.declared.ChainBest.{ChainBest}
+use Rattle.mvcc.specs.Snapshot.{Snapshot}
+use Rattle.row.proofs.Exact.{cell-placed}
 
 pub record FoundIn (s : List ℕ) (used p : ℕ) (c : Cell) : Type 0 where
   pub in-use : p < used
@@ -55,23 +55,23 @@ module _ (s : List ℕ) (used p : ℕ) (h : p < used) where
   later-in Best.Nothing c e b = record { in-use = h; there = e }
   later-in (Best.At q o) c e b = either (BestIn s used) (ltb (c .version .creator) (o .version .creator)) b (record { in-use = h; there = e })
 
-  module _ (st : ℕ → ℕ) (active : List ℕ) (xmax : ℕ) (cur : Current) (key : ℕ) where
-    newest-in : (best : Best) (c : Cell) → cellAt (page p s) (c .at) ≡ CellRead.Got c → BestIn s used best → BestIn s used (newest st active xmax cur p key best c)
+  module _ (sn : Snapshot) (st : ℕ → ℕ) (key : ℕ) where
+    newest-in : (best : Best) (c : Cell) → cellAt (page p s) (c .at) ≡ CellRead.Got c → BestIn s used best → BestIn s used (newest p key sn st best c)
     unfolding newest
     newest-in best c e b =
-        either (BestIn s used) (eqb (c .key) key && visible st active xmax cur (c .version .creator) (c .version .stamp)) (later-in best c e b) b
+        either (BestIn s used) (eqb (c .key) key && visible sn st (c .version .creator) (c .version .stamp)) (later-in best c e b) b
 
-    fold-in : (cs : List Cell) (best : Best) → AllThere (page p s) cs → BestIn s used best → BestIn s used (foldCells (newest st active xmax cur p key) best cs)
+    fold-in : (cs : List Cell) (best : Best) → AllThere (page p s) cs → BestIn s used best → BestIn s used (foldCells (newest p key sn st) best cs)
     unfolding foldCells
     fold-in [] best t b = b
-    fold-in (c ∷ cs) best t b = fold-in cs (newest st active xmax cur p key best c) (t .1) (newest-in best c (t .0) b)
+    fold-in (c ∷ cs) best t b = fold-in cs (newest p key sn st best c) (t .1) (newest-in best c (t .0) b)
 
-    find-in : (best : Best) {b : Best} {l : Bool} → findLeaf st active xmax cur p key best (page p s) ≡ LeafBest.Ok b l → BestIn s used best → BestIn s used b
+    find-in : (best : Best) {b : Best} {l : Bool} → findLeaf (page p s) p key sn st best ≡ LeafBest.Ok b l → BestIn s used best → BestIn s used b
     unfolding findLeaf
     find-in best {b} {l} e i = by-judged (judgeLeaf p (page p s)) e
       where
         all : Best
-        all = foldCells (newest st active xmax cur p key) best (cells (page p s))
+        all = foldCells (newest p key sn st) best (cells (page p s))
 
         by-judged : (j : Judged) → onJudged (λ e. LeafBest.Ok all (hasLarger key (cells (page p s)))) (λ f. LeafBest.Bad f) j ≡ LeafBest.Ok b l → BestIn s used b
         by-judged (Judged.Ok e) q =
@@ -79,38 +79,38 @@ module _ (s : List ℕ) (used p : ℕ) (h : p < used) where
             subst (BestIn s used) u (fold-in (cells (page p s)) best (all-there (page p s) (cellCount (page p s)) 12) i)
         by-judged (Judged.Bad f) q = absurd (let z : _≡_ {A = ℕ} 0 1 = cc in omega arith)
 
-module _ (st : ℕ → ℕ) (active : List ℕ) (xmax : ℕ) (cur : Current) (used key : ℕ) (s : List ℕ) where
-  along-in : (m : ℕ) (a : Best) (p : ℕ) {b : Best} → along (lookBest st active xmax cur key) used m a p s ≡ ok b → BestIn s used a → BestIn s used b
+module _ (sn : Snapshot) (st : ℕ → ℕ) (used key : ℕ) (s : List ℕ) where
+  along-in : (m : ℕ) (a : Best) (p : ℕ) {b : Best} → along (lookBest key sn st) used m a p s ≡ ok b → BestIn s used a → BestIn s used b
   unfolding along
   along-in zero a p e i = absurd (let z : _≡_ {A = ℕ} 0 1 = cc in omega arith)
   along-in (suc m) a p {b} e i = by-use (ltb p used) refl (λ d n q j. along-in m d n q j) e
     where
-      by-next : ((d : Best) (n : ℕ) → along (lookBest st active xmax cur key) used m d n s ≡ ok b → BestIn s used d → BestIn s used b) → (t : Bool) (d : Best) → BestIn s used d → pick t (ok d) (along (lookBest st active xmax cur key) used m d (nextLeaf (page p s)) s) ≡ ok b → BestIn s used b
+      by-next : ((d : Best) (n : ℕ) → along (lookBest key sn st) used m d n s ≡ ok b → BestIn s used d → BestIn s used b) → (t : Bool) (d : Best) → BestIn s used d → pick t (ok d) (along (lookBest key sn st) used m d (nextLeaf (page p s)) s) ≡ ok b → BestIn s used b
       by-next ih true d j q = let u : d ≡ b = cc in subst (BestIn s used) u j
       by-next ih false d j q = ih d (nextLeaf (page p s)) q j
 
-      by-leaf : ((d : Best) (n : ℕ) → along (lookBest st active xmax cur key) used m d n s ≡ ok b → BestIn s used d → BestIn s used b) → p < used → (r : LeafBest) → findLeaf st active xmax cur p key a (page p s) ≡ r
-          → onSeen (λ d. ok d) (λ d. pick (eqb (nextLeaf (page p s)) 0) (ok d) (along (lookBest st active xmax cur key) used m d (nextLeaf (page p s)) s)) (λ f. ill f) (seenBest r) ≡ ok b
+      by-leaf : ((d : Best) (n : ℕ) → along (lookBest key sn st) used m d n s ≡ ok b → BestIn s used d → BestIn s used b) → p < used → (r : LeafBest) → findLeaf (page p s) p key sn st a ≡ r
+          → onSeen (λ d. ok d) (λ d. pick (eqb (nextLeaf (page p s)) 0) (ok d) (along (lookBest key sn st) used m d (nextLeaf (page p s)) s)) (λ f. ill f) (seenBest r) ≡ ok b
           → BestIn s used b
-      by-leaf ih h (LeafBest.Ok d true) f q = let u : d ≡ b = cc in subst (BestIn s used) u (find-in s used p h st active xmax cur key a f i)
-      by-leaf ih h (LeafBest.Ok d false) f q = by-next ih (eqb (nextLeaf (page p s)) 0) d (find-in s used p h st active xmax cur key a f i) q
+      by-leaf ih h (LeafBest.Ok d true) f q = let u : d ≡ b = cc in subst (BestIn s used) u (find-in s used p h sn st key a f i)
+      by-leaf ih h (LeafBest.Ok d false) f q = by-next ih (eqb (nextLeaf (page p s)) 0) d (find-in s used p h sn st key a f i) q
       by-leaf ih h (LeafBest.Bad g) f q = absurd (let z : _≡_ {A = ℕ} 0 1 = cc in omega arith)
 
-      by-use : (t : Bool) → ltb p used ≡ t → ((d : Best) (n : ℕ) → along (lookBest st active xmax cur key) used m d n s ≡ ok b → BestIn s used d → BestIn s used b)
+      by-use : (t : Bool) → ltb p used ≡ t → ((d : Best) (n : ℕ) → along (lookBest key sn st) used m d n s ≡ ok b → BestIn s used d → BestIn s used b)
           → pick t
-          (onSeen (λ d. ok d) (λ d. pick (eqb (nextLeaf (page p s)) 0) (ok d) (along (lookBest st active xmax cur key) used m d (nextLeaf (page p s)) s)) (λ f. ill f)
-          (lookBest st active xmax cur key a p (page p s)))
+          (onSeen (λ d. ok d) (λ d. pick (eqb (nextLeaf (page p s)) 0) (ok d) (along (lookBest key sn st) used m d (nextLeaf (page p s)) s)) (λ f. ill f)
+          (lookBest key sn st a p (page p s)))
           (ill (structural p))
           ≡ ok b
           → BestIn s used b
-      by-use true t ih q = by-leaf ih (ltb-true p used t) (findLeaf st active xmax cur p key a (page p s)) refl q
+      by-use true t ih q = by-leaf ih (ltb-true p used t) (findLeaf (page p s) p key sn st a) refl q
       by-use false t ih q = absurd (let z : _≡_ {A = ℕ} 0 1 = cc in omega arith)
 
   -- what a lookup finds
-  pub best-in : (p : ℕ) {q : ℕ} {c : Cell} → bestAlong st active xmax cur used key p s ≡ ChainBest.Ok (Best.At q c) → FoundIn s used q c
+  pub best-in : (p : ℕ) {q : ℕ} {c : Cell} → bestAlong s used p key sn st ≡ ChainBest.Ok (Best.At q c) → FoundIn s used q c
   unfolding bestAlong
-  best-in p {q} {c} e = by-told (along (lookBest st active xmax cur key) used used Best.Nothing p s) refl e
+  best-in p {q} {c} e = by-told (along (lookBest key sn st) used used Best.Nothing p s) refl e
     where
-      by-told : (t : Told Best) → along (lookBest st active xmax cur key) used used Best.Nothing p s ≡ t → toldBest t ≡ ChainBest.Ok (Best.At q c) → FoundIn s used q c
+      by-told : (t : Told Best) → along (lookBest key sn st) used used Best.Nothing p s ≡ t → toldBest t ≡ ChainBest.Ok (Best.At q c) → FoundIn s used q c
       by-told (ok b) f u = let v : b ≡ Best.At q c = cc in along-in used Best.Nothing p (f ∙ ap (λ (x : Best). ok x) v) tt
       by-told (ill g) f u = absurd (let z : _≡_ {A = ℕ} 0 1 = cc in omega arith)

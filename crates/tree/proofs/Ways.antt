@@ -10,7 +10,8 @@ use Rattle.store.specs.Pick.{pick}
 use Rattle.page.specs.Page.{page}
 use Rattle.page.specs.Header.{nodeType, cellCount, nextLeaf}
 use Rattle.row.specs.declared.Fault.{Fault}
-use Rattle.inner.specs.Inner.{childAt, keysFrom, keysOf, neverFalls, judgeInner, structural}
+use Rattle.inner.specs.Inner.{childAt, keysFrom, keysOf, neverFalls, judgeInner}
+use Rattle.row.specs.Fault.{structural}
 use Rattle.inner.specs.Route.{searchRoute, insertRoute}
 use Rattle.inner.specs.declared.InnerJudged.{InnerJudged}
 use Rattle.leaf.specs.declared.find.Best.{Best}

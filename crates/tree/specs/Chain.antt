@@ -9,14 +9,14 @@ use Rattle.store.specs.Pick.{pick}
 use Rattle.page.specs.Page.{page}
 use Rattle.page.specs.Header.{nextLeaf}
 use Rattle.row.specs.declared.Fault.{Fault}
-use Rattle.inner.specs.Inner.{structural}
-use Rattle.mvcc.specs.declared.Current.{Current}
+use Rattle.row.specs.Fault.{structural}
 use Rattle.leaf.specs.Find.{findLeaf, testLeaf}
 use Rattle.leaf.specs.declared.find.Best.{Best}
 use Rattle.leaf.specs.declared.find.LeafBest.{LeafBest}
 use Rattle.leaf.specs.declared.find.LeafTest.{LeafTest}
 use Rattle.tree.specs.declared.ChainBest.{ChainBest}
 use Rattle.tree.specs.declared.ChainTest.{ChainTest}
+use Rattle.mvcc.specs.Snapshot.{Snapshot}
 
 -- what one leaf says: the walk ends here, or it goes on; or the leaf's fault
 pub data Seen (A : Type 0) : Type 0 where
@@ -53,11 +53,11 @@ abbrev pub toldBest : Told Best → ChainBest
 toldBest (ok b) = ChainBest.Ok b
 toldBest (ill f) = ChainBest.Bad f
 
-abbrev pub lookBest : (ℕ → ℕ) → List ℕ → ℕ → Current → (key : ℕ) → Best → ℕ → List ℕ → Seen Best
-lookBest st active xmax cur key best p pg = seenBest (findLeaf st active xmax cur p key best pg)
+abbrev pub lookBest : (key : ℕ) → Snapshot → (ℕ → ℕ) → Best → ℕ → List ℕ → Seen Best
+lookBest key sn st best p pg = seenBest (findLeaf pg p key sn st best)
 
-unfoldable pub bestAlong : (ℕ → ℕ) → List ℕ → ℕ → Current → (used key p : ℕ) → List ℕ → ChainBest
-bestAlong st active xmax cur used key p s = toldBest (along (lookBest st active xmax cur key) used used Best.Nothing p s)
+unfoldable pub bestAlong : List ℕ → (used p key : ℕ) → Snapshot → (ℕ → ℕ) → ChainBest
+bestAlong s used p key sn st = toldBest (along (lookBest key sn st) used used Best.Nothing p s)
 
 -- ---- conflict: whether some version of the key meets the test
 
@@ -70,8 +70,8 @@ abbrev pub toldTest : Told Bool → ChainTest
 toldTest (ok b) = ChainTest.Ok b
 toldTest (ill f) = ChainTest.Bad f
 
-abbrev pub lookTest : Bool → (ℕ → ℕ) → List ℕ → ℕ → Current → (seen key : ℕ) → Bool → ℕ → List ℕ → Seen Bool
-lookTest claiming st active xmax cur seen key found p pg = seenTest (testLeaf claiming st active xmax cur p seen key found pg)
+abbrev pub lookTest : (key : ℕ) → Snapshot → (ℕ → ℕ) → Bool → (seen : ℕ) → Bool → ℕ → List ℕ → Seen Bool
+lookTest key sn st claiming seen found p pg = seenTest (testLeaf pg p key sn st claiming seen found)
 
-unfoldable pub testAlong : Bool → (ℕ → ℕ) → List ℕ → ℕ → Current → (used seen key p : ℕ) → List ℕ → ChainTest
-testAlong claiming st active xmax cur used seen key p s = toldTest (along (lookTest claiming st active xmax cur seen key) used used false p s)
+unfoldable pub testAlong : List ℕ → (used p key : ℕ) → Snapshot → (ℕ → ℕ) → Bool → (seen : ℕ) → ChainTest
+testAlong s used p key sn st claiming seen = toldTest (along (lookTest key sn st claiming seen) used used false p s)

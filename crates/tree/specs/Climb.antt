@@ -11,7 +11,8 @@ use Rattle.store.specs.Part.{pad, zeros}
 use Rattle.page.specs.Page.{page}
 use Rattle.page.specs.Header.{parentOf}
 use Rattle.row.specs.declared.Fault.{Fault}
-use Rattle.inner.specs.Inner.{childrenFrom, judgeInner, structural}
+use Rattle.inner.specs.Inner.{childrenFrom, judgeInner}
+use Rattle.row.specs.Fault.{structural, noFault}
 use Rattle.inner.specs.Route.{childPlace}
 use Rattle.tree.specs.Descend.{onInner}
 use Rattle.tree.specs.declared.climb.Path.{Path}
@@ -38,9 +39,9 @@ pub data Way : Type 0 where
   up : List ℕ → Way
   astray : Fault → Way
 
-abbrev pub below : ℕ → Way → Way
-below p (up ps) = up (p ∷ ps)
-below p (astray f) = astray f
+abbrev pub wayFrom : ℕ → Way → Way
+wayFrom p (up ps) = up (p ∷ ps)
+wayFrom p (astray f) = astray f
 
 -- "the root's parent must be 0"
 abbrev pub rootWay : ℕ → List ℕ → Way
@@ -49,14 +50,14 @@ rootWay p s = pick (eqb (parentOf (page p s)) 0) (up (p ∷ [])) (astray (struct
 -- from page p, with k more levels above it at most
 unfoldable pub climbOf : (k : ℕ) → (used root p : ℕ) → List ℕ → Way
 climbOf zero used root p s = pick (eqb p root) (rootWay p s) (astray (structural p))
-climbOf (suc k) used root p s = pick (eqb p root) (rootWay p s) (onAbove (λ q. below p (climbOf k used root q s)) (λ f. astray f) (aboveOf used p s))
+climbOf (suc k) used root p s = pick (eqb p root) (rootWay p s) (onAbove (λ q. wayFrom p (climbOf k used root q s)) (λ f. astray f) (aboveOf used p s))
 
 -- the path as it is handed on: four places, the leaf's first
 abbrev pub pathOf : List ℕ → Path
 pathOf ps = record { pages = pad 4 ps; len = length ps }
 
 abbrev pub arrived : Path → Climbed
-arrived path = record { ok = true; fault = record { kind = 0; page = 0; offset = 0 }; path = path }
+arrived path = record { ok = true; fault = noFault; path = path }
 
 abbrev pub lost : Fault → Climbed
 lost f = record { ok = false; fault = f; path = record { pages = zeros 4; len = 0 } }
@@ -64,7 +65,3 @@ lost f = record { ok = false; fault = f; path = record { pages = zeros 4; len = 
 abbrev pub climbed : Way → Climbed
 climbed (up ps) = arrived (pathOf ps)
 climbed (astray f) = lost f
-
--- at the root, with the path to it
-abbrev pub topOf : ℕ → Path → List ℕ → Climbed
-topOf p path s = pick (eqb (parentOf (page p s)) 0) (arrived path) (lost (structural p))

@@ -5,9 +5,10 @@ use Prim.Native.Nat.{ℕ, zero, suc}
 use lib.Dec.{ltb, eqb}
 use Rattle.store.specs.Pick.{pick}
 use Rattle.page.specs.Page.{page}
-use Rattle.page.specs.Header.{nodeType}
+use Rattle.page.specs.Header.{nodeType, nodeLeaf}
 use Rattle.row.specs.declared.Fault.{Fault}
-use Rattle.inner.specs.Inner.{childAt, keysFrom, judgeInner, structural}
+use Rattle.inner.specs.Inner.{childAt, keysFrom, judgeInner}
+use Rattle.row.specs.Fault.{structural}
 use Rattle.inner.specs.Route.{searchRoute, insertRoute}
 use Rattle.inner.specs.declared.InnerJudged.{InnerJudged}
 use Rattle.tree.specs.declared.Route.{Route}
@@ -29,10 +30,10 @@ childOf route p n s = childAt (page p s) (turnOf route (keysFrom 0 n (page p s))
 
 -- from page p, with k levels below it; an internal page on the last level is a fault of its own
 unfoldable pub descendOf : (k : ℕ) → Route → (used p : ℕ) → List ℕ → Descent
-descendOf zero route used p s = pick (ltb p used) (pick (eqb (nodeType (page p s)) 1) (Descent.Leaf p) (Descent.Bad (structural p))) (Descent.Bad (structural p))
+descendOf zero route used p s = pick (ltb p used) (pick (eqb (nodeType (page p s)) nodeLeaf) (Descent.Leaf p) (Descent.Bad (structural p))) (Descent.Bad (structural p))
 descendOf (suc k) route used p s =
     pick (ltb p used)
-    (pick (eqb (nodeType (page p s)) 1) (Descent.Leaf p)
+    (pick (eqb (nodeType (page p s)) nodeLeaf) (Descent.Leaf p)
     (onInner (λ n. descendOf k route used (childOf route p n s) s) (λ f. Descent.Bad f) (judgeInner p (page p s))))
     (Descent.Bad (structural p))
 

@@ -6,3 +6,4 @@ pub mod Climb
 pub mod ChainFacts
 pub mod Lookup
 pub mod Create
+pub mod Steps

@@ -5,20 +5,20 @@ use mathlib.Core.List.{List}
 use Prim.Native.Nat.{ℕ, _+_, _*_}
 use Rattle.row.specs.declared.Version.{Version}
 use Rattle.row.specs.declared.Cell.{Cell}
-use Rattle.mvcc.specs.declared.Current.{Current}
 use Rattle.tree.specs.Descend.{descendOf, onLeaf}
 use Rattle.tree.specs.Chain.{bestAlong, testAlong}
 use Rattle.tree.specs.declared.Route.{Route}
 use Rattle.tree.specs.declared.ChainBest.{ChainBest}
 use Rattle.tree.specs.declared.ChainTest.{ChainTest}
+use Rattle.mvcc.specs.Snapshot.{Snapshot}
 
-unfoldable pub bestInTree : (ℕ → ℕ) → List ℕ → ℕ → Current → (used root key : ℕ) → List ℕ → ChainBest
-bestInTree st active xmax cur used root key s =
-    onLeaf (λ p. bestAlong st active xmax cur used key p s) (λ f. ChainBest.Bad f) (descendOf 3 (Route.Search key) used root s)
+unfoldable pub bestInTree : List ℕ → (used root key : ℕ) → Snapshot → (ℕ → ℕ) → ChainBest
+bestInTree s used root key sn st =
+    onLeaf (λ p. bestAlong s used p key sn st) (λ f. ChainBest.Bad f) (descendOf 3 (Route.Search key) used root s)
 
-unfoldable pub testInTree : Bool → (ℕ → ℕ) → List ℕ → ℕ → Current → (used root seen key : ℕ) → List ℕ → ChainTest
-testInTree claiming st active xmax cur used root seen key s =
-    onLeaf (λ p. testAlong claiming st active xmax cur used seen key p s) (λ f. ChainTest.Bad f) (descendOf 3 (Route.Search key) used root s)
+unfoldable pub testInTree : List ℕ → (used root key : ℕ) → Snapshot → (ℕ → ℕ) → Bool → (seen : ℕ) → ChainTest
+testInTree s used root key sn st claiming seen =
+    onLeaf (λ p. testAlong s used p key sn st claiming seen) (λ f. ChainTest.Bad f) (descendOf 3 (Route.Search key) used root s)
 
 -- "A returned version's data is that part of the pool, given by start and length."
 abbrev pub inPool : ℕ → Cell → Version

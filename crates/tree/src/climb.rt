@@ -3,7 +3,8 @@
 ghost use mathlib.Core.Path.{_≡_};
 ghost use Prim.Native.Nat.{_+_, _*_, _≤_, _<_};
 ghost use lib.ListN.{length};
-ghost use Rattle.tree.specs.Climb.{aboveOf, lost, topOf, climbOf, climbed};
+ghost use Rattle.tree.specs.Climb.{aboveOf, lost, climbOf, climbed};
+ghost use Rattle.tree.specs.Steps.Climb.{atRoot};
 use inner::InnerJudged;
 use row::Fault;
 
@@ -32,7 +33,7 @@ fn page_above(pool: &[u8], used: u32, p: u32) -> Above
 {
     let q = page::get_parent(page::pool::page_of(pool, p));
     if used <= q {
-        return Above::Bad(leaf::structural_fault(q));
+        return Above::Bad(row::structural_fault(q));
     }
     let pg = page::pool::page_of(pool, q);
     match inner::judge_inner(pg, q) {
@@ -41,7 +42,7 @@ fn page_above(pool: &[u8], used: u32, p: u32) -> Above
             if inner::child_place(pg, n + 1, p) <= n {
                 return Above::Page(q);
             }
-            Above::Bad(leaf::structural_fault(q))
+            Above::Bad(row::structural_fault(q))
         }
     }
 }
@@ -62,20 +63,16 @@ fn lost_at(f: Fault) -> Climbed
 // At the root, with the path to it.
 fn arrive(pool: &[u8], p: u32, path: Path) -> Climbed
     requires { ⌜ p * 4096 + 4096 ≤ length (now pool) ⌝ }
-    ensures { λ r. ⌜ r ≡ topOf p path (now (pool .entry)) ⌝ }
+    ensures { λ r. ⌜ r ≡ atRoot p path (now (pool .entry)) ⌝ }
 {
     if page::get_parent(page::pool::page_of(pool, p)) == 0 {
         return Climbed {
             ok: true,
-            fault: Fault {
-                kind: 0,
-                page: 0,
-                offset: 0,
-            },
+            fault: row::NO_FAULT,
             path,
         };
     }
-    lost_at(leaf::structural_fault(p))
+    lost_at(row::structural_fault(p))
 }
 
 pub fn climb(pool: &[u8], used: u32, root: u32, leaf: u32) -> Climbed
@@ -96,7 +93,7 @@ pub fn climb(pool: &[u8], used: u32, root: u32, leaf: u32) -> Climbed
             return arrive(pool, p, path);
         }
         if above == 0 {
-            return lost_at(leaf::structural_fault(p));
+            return lost_at(row::structural_fault(p));
         }
         match page_above(pool, used, p) {
             Above::Bad(f) => return lost_at(f),

@@ -11,7 +11,7 @@ fn write_root(pg: &mut [u8])
     requires { ⌜ length (now pg) ≡ 4096 ⌝ }
     ensures { λ _. ⌜ now (pg .exit) ≡ withIsRoot 1 (withNodeType 1 (now (pg .entry))) ⌝ }
 {
-    page::set_node_type(pg, 1);
+    page::set_node_type(pg, page::NODE_LEAF);
     page::set_is_root(pg, 1);
 }
 

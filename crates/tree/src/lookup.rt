@@ -3,7 +3,9 @@ ghost use mathlib.Core.Path.{_≡_};
 ghost use mathlib.Core.Bool.{true};
 ghost use Prim.Native.Nat.{_*_, _≤_};
 ghost use lib.ListN.{length};
-ghost use Rattle.mvcc.specs.Lists.{rising, lookup, Judged as StatusesJudged};
+ghost use Rattle.mvcc.specs.Lists.{rising};
+ghost use Rattle.mvcc.specs.Snapshot.{lookup, snapshot, statuses};
+ghost use Rattle.mvcc.specs.Steps.Snapshot.{StatusesJudged};
 ghost use Rattle.tree.specs.Descend.{descendOf};
 ghost use Rattle.tree.specs.Lookup.{bestInTree, testInTree, inPool};
 ghost use Rattle.tree.specs.declared.Route.{Route};
@@ -26,55 +28,55 @@ fn search_leaf(pool: &[u8], used: u32, root: u32, key: u32) -> Descent
 // The newest visible version of the key.
 pub fn best_in_tree(
     pool: &[u8],
-    ids: &[u64],
-    states: &[u8],
-    active: &[u64],
-    xmax: u64,
-    cur: Current,
     used: u32,
     root: u32,
     key: u32,
+    xmax: u64,
+    active: &[u64],
+    cur: Current,
+    ids: &[u64],
+    states: &[u8],
 ) -> ChainBest
-    requires { ⌜ (used * 4096 ≤ length (now pool)) × StatusesJudged (now ids) (now states) × (rising (now active) ≡ true) ⌝ }
-    ensures { λ r. ⌜ r ≡ bestInTree (lookup (now (ids .entry)) (now (states .entry))) (now (active .entry)) xmax cur used root key (now (pool .entry)) ⌝ }
+    requires { ⌜ (used * 4096 ≤ length (now pool)) × StatusesJudged (statuses (now ids) (now states)) × (rising (now active) ≡ true) ⌝ }
+    ensures { λ r. ⌜ r ≡ bestInTree (now (pool .entry)) used root key (snapshot xmax (now (active .entry)) cur) (lookup (statuses (now (ids .entry)) (now (states .entry)))) ⌝ }
 {
     match search_leaf(pool, used, root, key) {
         Descent::Bad(f) => ChainBest::Bad(f),
-        Descent::Leaf(p) => crate::best_along(pool, ids, states, active, xmax, cur, used, key, p),
+        Descent::Leaf(p) => crate::best_along(pool, used, p, key, xmax, active, cur, ids, states),
     }
 }
 
 // Whether some version of the key meets the conflict test, or claim's own.
 pub fn test_in_tree(
     pool: &[u8],
-    claiming: bool,
-    ids: &[u64],
-    states: &[u8],
-    active: &[u64],
-    xmax: u64,
-    cur: Current,
     used: u32,
     root: u32,
-    seen: u64,
     key: u32,
+    xmax: u64,
+    active: &[u64],
+    cur: Current,
+    ids: &[u64],
+    states: &[u8],
+    claiming: bool,
+    seen: u64,
 ) -> ChainTest
-    requires { ⌜ (used * 4096 ≤ length (now pool)) × StatusesJudged (now ids) (now states) × (rising (now active) ≡ true) ⌝ }
-    ensures { λ r. ⌜ r ≡ testInTree claiming (lookup (now (ids .entry)) (now (states .entry))) (now (active .entry)) xmax cur used root seen key (now (pool .entry)) ⌝ }
+    requires { ⌜ (used * 4096 ≤ length (now pool)) × StatusesJudged (statuses (now ids) (now states)) × (rising (now active) ≡ true) ⌝ }
+    ensures { λ r. ⌜ r ≡ testInTree (now (pool .entry)) used root key (snapshot xmax (now (active .entry)) cur) (lookup (statuses (now (ids .entry)) (now (states .entry)))) claiming seen ⌝ }
 {
     match search_leaf(pool, used, root, key) {
         Descent::Bad(f) => ChainTest::Bad(f),
         Descent::Leaf(p) => crate::test_along(
             pool,
-            claiming,
+            used,
+            p,
+            key,
+            xmax,
+            active,
+            cur,
             ids,
             states,
-            active,
-            xmax,
-            cur,
-            used,
+            claiming,
             seen,
-            key,
-            p,
         ),
     }
 }

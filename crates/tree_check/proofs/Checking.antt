@@ -13,7 +13,8 @@ use Rattle.row.specs.declared.Fault.{Fault}
 use Rattle.inner.specs.Inner.{keyAt, childAt, keysFrom, keysOf, neverFalls, judgeInner}
 use Rattle.inner.specs.declared.InnerJudged.{InnerJudged}
 use Rattle.tree.specs.Descend.{onInner}
-use Rattle.tree_check.specs.Check.{within, allWithin, cellsWithin, soundLeaf, soundInner, innerSound, wellAt, wellFormed, kidsOf, checkOf, isFirst}
+use Rattle.tree_check.specs.Check.{within, allWithin, cellsWithin, soundLeaf, soundInner, wellAt, isWellFormed}
+use Rattle.tree_check.specs.Steps.Check.{innerSound, kidsOf, checkOf, isFirst}
 use Rattle.tree_check.specs.declared.Verdict.{Verdict}
 use Rattle.tree_check.specs.declared.InnerSound.{InnerSound}
 use Rattle.tree.proofs.Ways.{and-both, InnerIs, inner-is}
@@ -209,8 +210,8 @@ wellFrom zero k used root s = false
 wellFrom (suc n) k used root s = wellAt k used root s || wellFrom n (k + 1) used root s
 
 module _ (used root : ℕ) (s : List ℕ) where
-  pub well-all : wellFrom 4 0 used root s ≡ wellFormed used root s
-  unfolding wellFrom wellFormed
+  pub well-all : wellFrom 4 0 used root s ≡ isWellFormed used root s
+  unfolding wellFrom isWellFormed
   well-all = rw (or-false (wellAt 3 used root s))
 
   pub well-none : (n k : ℕ) → n ≡ 0 → false ≡ wellFrom n k used root s

@@ -13,22 +13,23 @@ use Rattle.store.specs.Pick.{pick}
 use Rattle.page.specs.Page.{page}
 use Rattle.page.specs.Header.{nextLeaf, cellCount}
 use Rattle.inner.specs.Inner.{keyAt, childAt, keysFrom, childrenFrom, keysOf, childrenOf}
-use Rattle.tree_check.specs.Check.{soundLeaf, soundInner, soundKids, sound, eachOf, leavesOf, pagesOf, linked, wellAt, onFirst, kidsOf, checkOf, isFirst}
+use Rattle.tree_check.specs.Check.{soundInner, soundKids, soundTree, eachOf, leavesOf, pagesOf, leavesLinked, wellAt}
+use Rattle.tree_check.specs.Steps.Check.{onFirst, kidsOf, checkOf, isFirst}
 use Rattle.tree.specs.Distinct.{distinct}
-use Rattle.tree_check.specs.CheckFacts.{CheckIsWell}
+use Rattle.tree_check.specs.Steps.CheckFacts.{CheckIsWell}
 use Rattle.tree_check.specs.declared.Verdict.{Verdict}
 use Rattle.tree_check.proofs.Parting.{children-count, links-part}
 
 -- ---- a stretch of the chain
 
--- as `linked`, but the last leaf links to `next`
+-- as `leavesLinked`, but the last leaf links to `next`
 unfoldable linkedTo : List ℕ → (next : ℕ) → List ℕ → Bool
 linkedTo s next [] = true
 linkedTo s next (x ∷ []) = eqb (nextLeaf (page x s)) next
 linkedTo s next (x ∷ (y ∷ ys)) = eqb (nextLeaf (page x s)) y && (not (eqb y 0) && linkedTo s next (y ∷ ys))
 
-linked-all : (s l : List ℕ) → linkedTo s 0 l ≡ linked s l
-unfolding linkedTo linked
+linked-all : (s l : List ℕ) → linkedTo s 0 l ≡ leavesLinked s l
+unfolding linkedTo leavesLinked
 linked-all s [] = refl
 linked-all s (x ∷ []) = refl
 linked-all s (x ∷ (y ∷ ys)) = rw (linked-all s (y ∷ ys))
@@ -163,14 +164,14 @@ pick-and false b c v = refl
 
 -- the walk says whether the subtree is sound and its leaves are linked up to next, and which leaf is its first
 check-told : (used : ℕ) (s : List ℕ) (k parent p lo hi next : ℕ)
-    → checkOf k used s parent p lo hi next ≡ told (sound k used s parent p lo hi && linkedTo s next (leavesOf k s p)) (leavesOf k s p)
-unfolding checkOf sound leavesOf linkedTo
+    → checkOf k used s parent p lo hi next ≡ told (soundTree k used s parent p lo hi && linkedTo s next (leavesOf k s p)) (leavesOf k s p)
+unfolding checkOf soundTree leavesOf linkedTo
 check-told used s zero parent p lo hi next = refl
 check-told used s (suc k) parent p lo hi next =
-    let all = kids-told s (page p s) (checkOf k used s p) (sound k used s p) (leavesOf k s) (leaves-some k s) (check-told used s k p) (cellCount (page p s)) lo hi next in
+    let all = kids-told s (page p s) (checkOf k used s p) (soundTree k used s p) (leavesOf k s) (leaves-some k s) (check-told used s k p) (cellCount (page p s)) lo hi next in
     let L = eachOf (leavesOf k s) (childrenOf (page p s)) in
     ap (λ (v : Verdict). pick (soundInner used parent p lo hi s) v Verdict.Ill) (rw (← children-count (page p s)) at all)
-    ∙ pick-and (soundInner used parent p lo hi s) (soundKids (sound k used s p) lo hi (keysOf (page p s)) (childrenOf (page p s))) (linkedTo s next L) (Verdict.First (front L))
+    ∙ pick-and (soundInner used parent p lo hi s) (soundKids (soundTree k used s p) lo hi (keysOf (page p s)) (childrenOf (page p s))) (linkedTo s next L) (Verdict.First (front L))
 
 is-first : (t : Bool) (q : ℕ) → isFirst (pick t (Verdict.First q) Verdict.Ill) ≡ t
 is-first true q = refl
@@ -185,8 +186,8 @@ pub check-is-well : CheckIsWell
 unfolding wellAt
 check-is-well k used root s =
     let L = leavesOf k s root in
-    let S = sound k used s 0 root 0 4294967295 in
+    let S = soundTree k used s 0 root 0 4294967295 in
     ap isFirst (check-told used s k 0 root 0 4294967295 0)
     ∙ (is-first (S && linkedTo s 0 L) (front L)
     ∙ (ap (λ (b : Bool). S && b) (linked-all s L)
-    ∙ and-given S (linked s L) (distinct (pagesOf k s root)) (links-part k used root s)))
+    ∙ and-given S (leavesLinked s L) (distinct (pagesOf k s root)) (links-part k used root s)))

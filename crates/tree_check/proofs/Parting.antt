@@ -13,15 +13,16 @@ use borrow.Author.Tests.{eqb-true, eq-eqb, ne-eqb, not-true}
 use Rattle.store.specs.Pick.{pick}
 use Rattle.page.specs.Page.{page}
 use Rattle.page.specs.Header.{nodeType, parentOf, nextLeaf, cellCount}
-use Rattle.inner.specs.Inner.{keyAt, childAt, keysFrom, childrenFrom, keysOf, childrenOf, neverFalls, judgeInner, structural}
+use Rattle.inner.specs.Inner.{keyAt, childAt, keysFrom, childrenFrom, keysOf, childrenOf, neverFalls, judgeInner}
+use Rattle.row.specs.Fault.{structural}
 use Rattle.inner.specs.declared.InnerJudged.{InnerJudged}
 use Rattle.mvcc.specs.Lists.{mem}
 use Rattle.leaf.specs.Cells.{cells, foldCells, judgeCells, judgeLeaf, onJudged}
 use Rattle.leaf.specs.declared.Judged.{Judged}
 use Rattle.tree.specs.Descend.{onInner}
-use Rattle.tree_check.specs.Check.{within, allWithin, cellsWithin, soundLeaf, soundInner, soundKids, sound, eachOf, leavesOf, pagesOf, linked}
+use Rattle.tree_check.specs.Check.{within, allWithin, cellsWithin, soundLeaf, soundInner, soundKids, soundTree, eachOf, leavesOf, pagesOf, leavesLinked}
 use Rattle.tree.specs.Distinct.{distinct}
-use Rattle.tree_check.specs.CheckFacts.{LinksPart}
+use Rattle.tree_check.specs.Steps.CheckFacts.{LinksPart}
 use Rattle.tree.proofs.Ways.{and-both}
 
 -- ---- lists without a number twice
@@ -119,17 +120,17 @@ far (suc n) s p = pick (eqb (nextLeaf (page p s)) 0) 0 (suc (far n s (nextLeaf (
 record Linked (s : List ℕ) (x y : ℕ) (ys : List ℕ) : Type 0 where
   next : nextLeaf (page x s) ≡ y
   no-first : eqb y 0 ≡ false
-  rest : linked s (y ∷ ys) ≡ true
+  rest : leavesLinked s (y ∷ ys) ≡ true
 
-linked-is : (s : List ℕ) (x y : ℕ) (ys : List ℕ) → linked s (x ∷ (y ∷ ys)) ≡ true → Linked s x y ys
-unfolding linked
+linked-is : (s : List ℕ) (x y : ℕ) (ys : List ℕ) → leavesLinked s (x ∷ (y ∷ ys)) ≡ true → Linked s x y ys
+unfolding leavesLinked
 linked-is s x y ys e =
-    let a = and-both (eqb (nextLeaf (page x s)) y) (not (eqb y 0) && linked s (y ∷ ys)) e in
-    let b = and-both (not (eqb y 0)) (linked s (y ∷ ys)) (a .1) in
+    let a = and-both (eqb (nextLeaf (page x s)) y) (not (eqb y 0) && leavesLinked s (y ∷ ys)) e in
+    let b = and-both (not (eqb y 0)) (leavesLinked s (y ∷ ys)) (a .1) in
     record { next = eqb-true (nextLeaf (page x s)) y (a .0); no-first = not-true (eqb y 0) (b .0); rest = b .1 }
 
-far-is : (s : List ℕ) (xs : List ℕ) (x n : ℕ) → length xs ≤ n → linked s (x ∷ xs) ≡ true → far n s x ≡ length xs
-unfolding far linked
+far-is : (s : List ℕ) (xs : List ℕ) (x n : ℕ) → length xs ≤ n → leavesLinked s (x ∷ xs) ≡ true → far n s x ≡ length xs
+unfolding far leavesLinked
 far-is s [] x zero h e = refl
 far-is s [] x (suc n) h e = rw e
 far-is s (y ∷ ys) x zero h e = absurd (omega arith)
@@ -137,7 +138,7 @@ far-is s (y ∷ ys) x (suc n) h e =
     let l = linked-is s x y ys e in
     rw (l .next, l .no-first) (ap suc (far-is s ys y n (omega arith) (l .rest)))
 
-far-later : (s : List ℕ) (xs : List ℕ) (x n y : ℕ) → length xs ≤ n → linked s (x ∷ xs) ≡ true → mem y xs ≡ true → far n s y < length xs
+far-later : (s : List ℕ) (xs : List ℕ) (x n y : ℕ) → length xs ≤ n → leavesLinked s (x ∷ xs) ≡ true → mem y xs ≡ true → far n s y < length xs
 far-later s [] x n y h e m = absurd (mem-none y m)
 far-later s (z ∷ zs) x n y h e m =
     let l = linked-is s x z zs e in
@@ -145,13 +146,13 @@ far-later s (z ∷ zs) x n y h e m =
     (λ (i : mem y zs ≡ true). let f = far-later s zs z n y (omega arith) (l .rest) i in omega arith)
     (mem-cons y z zs m)
 
-linked-tail : (s : List ℕ) (x : ℕ) (xs : List ℕ) → linked s (x ∷ xs) ≡ true → linked s xs ≡ true
-unfolding linked
+linked-tail : (s : List ℕ) (x : ℕ) (xs : List ℕ) → leavesLinked s (x ∷ xs) ≡ true → leavesLinked s xs ≡ true
+unfolding leavesLinked
 linked-tail s x [] e = refl
 linked-tail s x (y ∷ ys) e = linked-is s x y ys e .rest
 
 -- no leaf stands twice in the chain
-linked-distinct : (s l : List ℕ) → linked s l ≡ true → distinct l ≡ true
+linked-distinct : (s l : List ℕ) → leavesLinked s l ≡ true → distinct l ≡ true
 unfolding distinct
 linked-distinct s [] e = refl
 linked-distinct s (x ∷ xs) e =
@@ -243,7 +244,7 @@ inner-type used parent p lo hi s e =
 
 -- a page that is sound under some bounds
 abbrev SoundAt : (k used : ℕ) → List ℕ → (parent c : ℕ) → Type 0
-SoundAt k used s parent c = (lo : ℕ) × (hi : ℕ) × (sound k used s parent c lo hi ≡ true)
+SoundAt k used s parent c = (lo : ℕ) × (hi : ℕ) × (soundTree k used s parent c lo hi ≡ true)
 
 sound-each : (f : ℕ → ℕ → ℕ → Bool) (pg : List ℕ) (n i lo hi : ℕ) → soundKids f lo hi (keysFrom i n pg) (childrenFrom i (suc n) pg) ≡ true
     → Each (λ c. (lo : ℕ) × (hi : ℕ) × (f c lo hi ≡ true)) (childrenFrom i (suc n) pg)
@@ -271,12 +272,12 @@ record SoundPage (k used : ℕ) (s : List ℕ) (p : ℕ) : Type 0 where
   kids : Each (SoundAt k used s p) (childrenOf (page p s))
   first : SoundAt k used s p (childAt (page p s) 0)
 
-sound-page : (k used : ℕ) (s : List ℕ) (parent p lo hi : ℕ) → sound (suc k) used s parent p lo hi ≡ true → SoundPage k used s p
-unfolding sound
+sound-page : (k used : ℕ) (s : List ℕ) (parent p lo hi : ℕ) → soundTree (suc k) used s parent p lo hi ≡ true → SoundPage k used s p
+unfolding soundTree
 sound-page k used s parent p lo hi e =
-    let a = and-both (soundInner used parent p lo hi s) (soundKids (sound k used s p) lo hi (keysOf (page p s)) (childrenOf (page p s))) e in
+    let a = and-both (soundInner used parent p lo hi s) (soundKids (soundTree k used s p) lo hi (keysOf (page p s)) (childrenOf (page p s))) e in
     let all : Each (SoundAt k used s p) (childrenOf (page p s)) =
-    rw (children-count (page p s)) (sound-each (sound k used s p) (page p s) (cellCount (page p s)) 0 lo hi (rw (children-count (page p s)) at (a .1))) in
+    rw (children-count (page p s)) (sound-each (soundTree k used s p) (page p s) (cellCount (page p s)) 0 lo hi (rw (children-count (page p s)) at (a .1))) in
     record { is-inner = inner-type used parent p lo hi s (a .0); kids = all; first = subst (Each (SoundAt k used s p)) (children-are (page p s)) all .0 }
 
 -- ---- the way to a page's first leaf
@@ -295,8 +296,8 @@ record Led (n k : ℕ) (s : List ℕ) (p : ℕ) : Type 0 where
   inside : mem (lead n s p) (leavesOf k s p) ≡ true
 
 module _ (used : ℕ) (s : List ℕ) where
-  led : (n k parent p lo hi : ℕ) → k ≤ n → sound k used s parent p lo hi ≡ true → Led n k s p
-  unfolding lead deep leavesOf eachOf sound
+  led : (n k parent p lo hi : ℕ) → k ≤ n → soundTree k used s parent p lo hi ≡ true → Led n k s p
+  unfolding lead deep leavesOf eachOf soundTree
   led zero zero parent p lo hi h e = record { level = refl; inside = mem-here p [] }
   led (suc n) zero parent p lo hi h e =
       let t = leaf-type used parent p lo hi s e in
@@ -316,7 +317,7 @@ module _ (used : ℕ) (s : List ℕ) where
     low : deep n s q ≤ k
     inside : mem (lead n s q) (leavesOf k s p) ≡ true
 
-  under : (n k parent p lo hi q : ℕ) → k ≤ n → sound k used s parent p lo hi ≡ true → mem q (pagesOf k s p) ≡ true → Under n k p q
+  under : (n k parent p lo hi q : ℕ) → k ≤ n → soundTree k used s parent p lo hi ≡ true → mem q (pagesOf k s p) ≡ true → Under n k p q
   unfolding leavesOf pagesOf
   under n zero parent p lo hi q h e m =
       let l = led n zero parent p lo hi h e in
@@ -331,7 +332,7 @@ module _ (used : ℕ) (s : List ℕ) where
       record { low = omega arith; inside = o .among (lead n s q) (u .inside) })
       (mem-cons q p (eachOf (pagesOf k s) (childrenOf (page p s))) m)
 
-  pages-part : (n k parent p lo hi : ℕ) → k ≤ n → sound k used s parent p lo hi ≡ true → distinct (leavesOf k s p) ≡ true → distinct (pagesOf k s p) ≡ true
+  pages-part : (n k parent p lo hi : ℕ) → k ≤ n → soundTree k used s parent p lo hi ≡ true → distinct (leavesOf k s p) ≡ true → distinct (pagesOf k s p) ≡ true
   unfolding leavesOf pagesOf
   pages-part n zero parent p lo hi h e d = d
   pages-part n (suc k) parent p lo hi h e d =

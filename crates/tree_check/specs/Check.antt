@@ -7,15 +7,12 @@ use mathlib.Core.Bool.{Bool, true, false, not, _&&_, _||_}
 use mathlib.Core.List.{List, [], _∷_, _++_}
 use Prim.Native.Nat.{ℕ, zero, suc}
 use lib.Dec.{leb, ltb, eqb}
-use Rattle.store.specs.Pick.{pick}
 use Rattle.page.specs.Page.{page}
-use Rattle.page.specs.Header.{parentOf, nextLeaf, cellCount}
-use Rattle.inner.specs.Inner.{keyAt, childAt, keysOf, childrenOf, judgeInner}
+use Rattle.page.specs.Header.{parentOf, nextLeaf}
+use Rattle.inner.specs.Inner.{keysOf, childrenOf, judgeInner}
 use Rattle.leaf.specs.Cells.{cells, foldCells, judgeLeaf, onJudged}
 use Rattle.tree.specs.Distinct.{distinct}
 use Rattle.tree.specs.Descend.{onInner}
-use Rattle.tree_check.specs.declared.Verdict.{Verdict}
-use Rattle.tree_check.specs.declared.InnerSound.{InnerSound}
 
 -- ---- one page under its bounds
 
@@ -48,9 +45,9 @@ soundKids f lo hi ks [] = false
 soundKids f lo hi [] (c ∷ cs) = f c lo hi
 soundKids f lo hi (k ∷ ks) (c ∷ cs) = f c lo k && soundKids f k hi ks cs
 
-unfoldable pub sound : (k used : ℕ) → List ℕ → (parent p lo hi : ℕ) → Bool
-sound zero used s parent p lo hi = soundLeaf used parent p lo hi s
-sound (suc k) used s parent p lo hi = soundInner used parent p lo hi s && soundKids (sound k used s p) lo hi (keysOf (page p s)) (childrenOf (page p s))
+unfoldable pub soundTree : (k used : ℕ) → List ℕ → (parent p lo hi : ℕ) → Bool
+soundTree zero used s parent p lo hi = soundLeaf used parent p lo hi s
+soundTree (suc k) used s parent p lo hi = soundInner used parent p lo hi s && soundKids (soundTree k used s p) lo hi (keysOf (page p s)) (childrenOf (page p s))
 
 -- the leaves, left to right, and all pages
 unfoldable pub eachOf : (ℕ → List ℕ) → List ℕ → List ℕ
@@ -68,38 +65,14 @@ pagesOf (suc k) s p = p ∷ eachOf (pagesOf k s) (childrenOf (page p s))
 -- ---- the tree
 
 -- "Next-leaf links run left to right and end with 0, so page 0 is no leaf but the first"
-unfoldable pub linked : List ℕ → List ℕ → Bool
-linked s [] = true
-linked s (x ∷ []) = eqb (nextLeaf (page x s)) 0
-linked s (x ∷ (y ∷ ys)) = eqb (nextLeaf (page x s)) y && (not (eqb y 0) && linked s (y ∷ ys))
+unfoldable pub leavesLinked : List ℕ → List ℕ → Bool
+leavesLinked s [] = true
+leavesLinked s (x ∷ []) = eqb (nextLeaf (page x s)) 0
+leavesLinked s (x ∷ (y ∷ ys)) = eqb (nextLeaf (page x s)) y && (not (eqb y 0) && leavesLinked s (y ∷ ys))
 
 -- with k levels below the root; ranks are from 0 to 4294967295, so that the root has no bounds
 unfoldable pub wellAt : (k used root : ℕ) → List ℕ → Bool
-wellAt k used root s = sound k used s 0 root 0 4294967295 && (linked s (leavesOf k s root) && distinct (pagesOf k s root))
+wellAt k used root s = soundTree k used s 0 root 0 4294967295 && (leavesLinked s (leavesOf k s root) && distinct (pagesOf k s root))
 
-unfoldable pub wellFormed : (used root : ℕ) → List ℕ → Bool
-wellFormed used root s = wellAt 0 used root s || (wellAt 1 used root s || (wellAt 2 used root s || wellAt 3 used root s))
-
--- ---- how it is judged: from the last child to the first, with the link that the last leaf must have; the answer is the
--- first leaf, which the leaf to its left must link to
-
-abbrev pub innerSound : (used parent p lo hi : ℕ) → List ℕ → InnerSound
-innerSound used parent p lo hi s = pick (soundInner used parent p lo hi s) (InnerSound.Ok (cellCount (page p s))) InnerSound.Ill
-
-abbrev pub onFirst : {A : Type 0} → (ℕ → A) → A → Verdict → A
-onFirst good ill (Verdict.First q) = good q
-onFirst good ill Verdict.Ill = ill
-
--- the children from the j-th down to the first
-unfoldable pub kidsOf : (ℕ → ℕ → ℕ → ℕ → Verdict) → (lo j hi next : ℕ) → List ℕ → Verdict
-kidsOf f lo zero hi next pg = f (childAt pg 0) lo hi next
-kidsOf f lo (suc j) hi next pg =
-    onFirst (λ q. pick (eqb q 0) Verdict.Ill (kidsOf f lo j (keyAt pg j) q pg)) Verdict.Ill (f (childAt pg (suc j)) (keyAt pg j) hi next)
-
-unfoldable pub checkOf : (k used : ℕ) → List ℕ → (parent p lo hi next : ℕ) → Verdict
-checkOf zero used s parent p lo hi next = pick (soundLeaf used parent p lo hi s && eqb (nextLeaf (page p s)) next) (Verdict.First p) Verdict.Ill
-checkOf (suc k) used s parent p lo hi next =
-    pick (soundInner used parent p lo hi s) (kidsOf (checkOf k used s p) lo (cellCount (page p s)) hi next (page p s)) Verdict.Ill
-
-abbrev pub isFirst : Verdict → Bool
-isFirst v = onFirst (λ q. true) false v
+unfoldable pub isWellFormed : (used root : ℕ) → List ℕ → Bool
+isWellFormed used root s = wellAt 0 used root s || (wellAt 1 used root s || (wellAt 2 used root s || wellAt 3 used root s))

@@ -1,3 +1,3 @@
 -- What a reader of the contracts of `tree_check` has to believe.
 pub mod Check
-pub mod CheckFacts
+pub mod Steps

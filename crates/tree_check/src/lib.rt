@@ -4,7 +4,8 @@
 ghost use mathlib.Core.Path.{_≡_};
 ghost use Prim.Native.Nat.{_+_, _*_, _≤_, _<_};
 ghost use lib.ListN.{length};
-ghost use Rattle.tree_check.specs.Check.{within, cellsWithin, soundLeaf, innerSound, checkOf, wellFormed};
+ghost use Rattle.tree_check.specs.Check.{within, cellsWithin, soundLeaf, isWellFormed};
+ghost use Rattle.tree_check.specs.Steps.Check.{innerSound, checkOf};
 use inner::InnerJudged;
 
 // No rank is above it.
@@ -35,11 +36,11 @@ fn cells_within(pg: &[u8], p: u32, lo: u32, hi: u32) -> bool
     requires { ⌜ length (now pg) ≡ 4096 ⌝ }
     ensures { λ r. ⌜ r ≡ cellsWithin lo hi p (now (pg .entry)) ⌝ }
 {
-    if page::get_node_type(pg) != 1 {
+    if page::get_node_type(pg) != page::NODE_LEAF {
         return false;
     }
     let mut left = page::get_cell_count(pg) as usize;
-    let mut at = 12;
+    let mut at = page::HEADER_SIZE;
     let mut k: u32 = 0;
     let mut c: u64 = 0;
     let mut ok = true;
@@ -163,7 +164,7 @@ fn check_leaf(pool: &[u8], used: u32, parent: u32, p: u32, lo: u32, hi: u32, nex
 // With each number of levels: a wrong one fails on the way to the last leaf.
 pub fn check_tree(pool: &[u8], used: u32, root: u32) -> bool
     requires { ⌜ used * 4096 ≤ length (now pool) ⌝ }
-    ensures { λ r. ⌜ r ≡ wellFormed used root (now (pool .entry)) ⌝ }
+    ensures { λ r. ⌜ r ≡ isWellFormed used root (now (pool .entry)) ⌝ }
 {
     let mut below: usize = 0;
     while below < 4 {

@@ -9,22 +9,24 @@ use borrow.Rule.Slice.PartMut.{midOf, putMid}
 use lib.ListN.{length, length-map, length-replicate}
 use lib.Seq.{drop-cons}
 use Rattle.store.specs.Part.{part, zeros}
-use Rattle.store.proofs.PutLaws.{part-none}
 use Rattle.page.specs.Page.{page, setPage}
 use Rattle.page.specs.Header.{cellCount}
 use Rattle.page.specs.Key.{rankAt}
 use Rattle.page.specs.Pool.{nextPage, allocated, withFresh}
 use Rattle.page.specs.declared.pool.State.{State}
 use Rattle.page.specs.declared.pool.Allocated.{Allocated}
-use Rattle.page.proofs.PageLaws.{lent-page, back-page, page-setPage-other}
-use Rattle.page.proofs.PoolLaws.{alloc-page}
 use Rattle.inner.specs.Inner.{childrenFrom}
 use Rattle.inner.specs.Route.{childPlace}
-use Rattle.inner_edit.specs.Edit.{withEntry, leftHalf, middleKey, rightHalf, topOf, adopted, AdoptSafe}
+use Rattle.inner_edit.specs.Edit.{withEntry, leftHalf, middleKey, rightHalf, topPage, adopted}
+use Rattle.inner_edit.specs.Steps.Edit.{AdoptSafe}
 use Rattle.tree.specs.declared.climb.Path.{Path}
 use Rattle.tree_grow.specs.Path.{pageAt, pagesAbove}
-use Rattle.tree_grow.specs.Grow.{Grown, grown, linked, linkedBoth, topOver, placeIn, joinedTo, halved, enterOf, divideOf, keptRoot, settled}
-use Rattle.tree_grow.specs.Safe.{There, Free, HalvedSafe, EnterSafe, DivideSafe, PinSafe, AboveSafe}
+use Rattle.tree_grow.specs.Grow.{Grown, grown, linked, linkedBoth, topOver, placeIn, joinedTo, halved, enterOf, keptRoot, settled}
+use Rattle.tree_grow.specs.Steps.Grow.{divideOf}
+use Rattle.tree_grow.specs.Steps.Safe.{There, Free, HalvedSafe, EnterSafe, DivideSafe, PinSafe, AboveSafe}
+use Rattle.store.proofs.PutLaws.{part-none}
+use Rattle.page.proofs.PageLaws.{lent-page, back-page, page-setPage-other}
+use Rattle.page.proofs.PoolLaws.{alloc-page}
 
 -- ---- the pages above a level
 
@@ -47,7 +49,7 @@ module _ (path : Path) (level : ℕ) where
 
 module _ (s : List ℕ) (st : State) {a : Allocated} (given : a ≡ allocated s st) where
   pub top-done : (old sep new : ℕ) {t y u : List ℕ} → t ≡ withFresh s st
-      → y ≡ topOf old sep new (midOf (a .page * 4096) (a .page * 4096 + 4096 - a .page * 4096) t)
+      → y ≡ topPage old sep new (midOf (a .page * 4096) (a .page * 4096 + 4096 - a .page * 4096) t)
       → u ≡ linkedBoth old new (a .page) (putMid (a .page * 4096) (a .page * 4096 + 4096 - a .page * 4096) t y)
       → grown u (record { root = a .page; used = a .state .used }) ≡ topOver old sep new (grown s st)
   unfolding topOver allocated

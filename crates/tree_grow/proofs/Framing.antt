@@ -10,23 +10,24 @@ use borrow.Author.Tests.{lt-ltb, eq-eqb, ne-eqb, ltb-true, ltb-false, eqb-true}
 use lib.Dec.{ltb, eqb, eqb·suc-suc}
 use lib.ListN.{length, getD}
 use Rattle.store.specs.Pick.{pick}
-use Rattle.store.proofs.PartLaws.{le-or-lt}
 use Rattle.mvcc.specs.Lists.{mem}
 use Rattle.page.specs.Page.{page}
 use Rattle.page.specs.Header.{cellCount}
 use Rattle.page.specs.Pool.{nextPage}
-use Rattle.page.proofs.PageLaws.{length-page}
-use Rattle.inner.specs.Inner.{childAt, childrenFrom, structural}
+use Rattle.inner.specs.Inner.{childAt, childrenFrom}
+use Rattle.row.specs.Fault.{structural}
 use Rattle.inner_edit.specs.Edit.{leftHalf, middleKey}
 use Rattle.tree.specs.Climb.{climbOf, up}
-use Rattle.tree.proofs.Climbing.{Rises, climb-risen, path-is}
-use Rattle.tree.proofs.Ways.{inner-is}
 use Rattle.tree_grow.specs.Grow.{Grown, grown, linked, placeIn, topOver, joinedTo, halved, enterOf}
-use Rattle.tree_grow.specs.Safe.{Free, HalvedSafe, EnterSafe, PinSafe, Stands}
+use Rattle.tree_grow.specs.Steps.Safe.{Free, HalvedSafe, EnterSafe, PinSafe, Stands}
 use Rattle.tree_grow.specs.Plan.{fullPages, divisionOf, pagesAsked, firstMoved, relinksIn, keepsNumber, relinks, inUse, onLinks, planOf}
-use Rattle.tree_grow.specs.PlanFacts.{ClimbStands, Room, PlanIsSafe}
+use Rattle.tree_grow.specs.Steps.PlanFacts.{ClimbStands, Room, PlanIsSafe}
 use Rattle.tree_grow.specs.declared.plan.Links.{Links}
 use Rattle.tree_grow.specs.declared.plan.Plan.{Plan}
+use Rattle.store.proofs.PartLaws.{le-or-lt}
+use Rattle.page.proofs.PageLaws.{length-page}
+use Rattle.tree.proofs.Climbing.{Rises, climb-risen, path-is}
+use Rattle.tree.proofs.Ways.{inner-is}
 use Rattle.tree_grow.proofs.Likeness.{Alike, alike-eq, alike-trans, alike-place, Like, like-linked}
 use Rattle.tree_grow.proofs.Halving.{left-below, left-count}
 use Rattle.tree_grow.proofs.Stepping.{next-is, halved-safe, halved-long, halved-here, halved-other, halved-root, halved-used, Ready, top-root, top-used, top-length, top-other, top-right, ready-alike, pin-safe}

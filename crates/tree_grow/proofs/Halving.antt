@@ -9,16 +9,16 @@ use borrow.Author.Tests.{lt-ltb, le-ltb}
 use lib.ListN.{length, length-append}
 use Rattle.store.specs.Le.{leAt, bytesLE}
 use Rattle.store.specs.Part.{part, pad}
-use Rattle.store.proofs.LeLaws.{length-bytesLE, length-putAt, leAt-putAt, leAt-putAt-above}
-use Rattle.store.proofs.PartLaws.{le-or-lt, length-part, leAt-part, leAt-same, leAt-first, part-peel}
-use Rattle.store.proofs.SeamLaws.{part-right, length-pad, part-pad}
 use Rattle.page.specs.Header.{cellCount, withCount}
 use Rattle.page.specs.Key.{flip, keyBytes}
 use Rattle.inner.specs.Inner.{childAt}
 use Rattle.inner_edit.specs.Edit.{entered, leftHalf, rightHalf}
+use Rattle.tree_grow.specs.Plan.{firstMoved}
+use Rattle.store.proofs.LeLaws.{length-bytesLE, length-putAt, leAt-putAt, leAt-putAt-above}
+use Rattle.store.proofs.PartLaws.{le-or-lt, length-part, leAt-part, leAt-same, leAt-first, part-peel}
+use Rattle.store.proofs.SeamLaws.{part-right, length-pad, part-pad}
 use Rattle.inner_edit.proofs.Editing.{entered-before, entered-pair, entered-after}
 use Rattle.inner_edit.proofs.Dividing.{length-left, length-right}
-use Rattle.tree_grow.specs.Plan.{firstMoved}
 
 -- a page whose bytes are x, then zeros, has the children of x
 made-child : (n k : ℕ) (x : List ℕ) → 12 + 8 * k + 4 ≤ length x → childAt (withCount n (pad 4096 x)) k ≡ childAt x k

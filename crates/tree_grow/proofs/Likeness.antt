@@ -11,11 +11,12 @@ use lib.ListN.{length}
 use Rattle.store.proofs.LeLaws.{length-putAt, leAt-putAt-below, leAt-putAt-above}
 use Rattle.page.specs.Page.{page}
 use Rattle.page.specs.Header.{nodeType, cellCount, withIsRoot, withParent}
-use Rattle.page.proofs.PageLaws.{length-page, length-setPage, page-setPage, page-setPage-other}
 use Rattle.inner.specs.Inner.{childAt, childrenFrom, childrenOf}
-use Rattle.inner_edit.specs.Edit.{adopted, AdoptSafe}
+use Rattle.inner_edit.specs.Edit.{adopted}
+use Rattle.inner_edit.specs.Steps.Edit.{AdoptSafe}
 use Rattle.tree_grow.specs.Grow.{linked, linkedBoth, placeIn}
-use Rattle.tree_grow.specs.Safe.{There}
+use Rattle.tree_grow.specs.Steps.Safe.{There}
+use Rattle.page.proofs.PageLaws.{length-page, length-setPage, page-setPage, page-setPage-other}
 
 -- ---- pages
 

@@ -8,18 +8,19 @@ use lib.ListN.{length}
 use borrow.Author.Tests.{eq-eqb, ne-eqb}
 use borrow.Rule.Slice.PartMut.{midOf, putMid}
 use Rattle.store.specs.Part.{part, put, zeros}
-use Rattle.store.proofs.PutLaws.{put-splice}
-use Rattle.store.proofs.SeamLaws.{put-zeros}
 use Rattle.page.specs.Page.{page, setPage}
 use Rattle.page.specs.Header.{nodeType, cellCount, withNodeType, withIsRoot, withParent}
 use Rattle.page.specs.Pool.{nextPage, allocated, withFresh}
 use Rattle.page.specs.declared.pool.State.{State}
 use Rattle.page.specs.declared.pool.Allocated.{Allocated}
-use Rattle.page.proofs.PageLaws.{lent-page, back-page, length-page, page-setPage, setPage-setPage}
 use Rattle.inner.specs.Inner.{keyAt, childAt}
-use Rattle.inner_edit.specs.Edit.{topOf, adopted, AdoptSafe}
+use Rattle.inner_edit.specs.Edit.{topPage, adopted}
+use Rattle.inner_edit.specs.Steps.Edit.{AdoptSafe}
 use Rattle.tree_grow.specs.Grow.{Grown, grown, linkedBoth, movedTo, relinked, topIn, pinOf, keptRoot}
-use Rattle.tree_grow.specs.Safe.{There, RelinkSafe, PinSafe}
+use Rattle.tree_grow.specs.Steps.Safe.{There, RelinkSafe, PinSafe}
+use Rattle.store.proofs.PutLaws.{put-splice}
+use Rattle.store.proofs.SeamLaws.{put-zeros}
+use Rattle.page.proofs.PageLaws.{lent-page, back-page, length-page, page-setPage, setPage-setPage}
 
 -- ---- the image in another page
 
@@ -54,7 +55,7 @@ module _ (z : ℕ) (s : List ℕ) {pg : List ℕ} {t n : ℕ} (here : pg ≡ pag
 -- ---- the new top in its place
 
 pub root-done : (fixed left sep right : ℕ) (s : List ℕ) {y₁ y₂ y₃ y₄ : List ℕ} → There fixed s
-    → y₁ ≡ put 12 (zeros (4096 - 12)) (midOf (fixed * 4096) (fixed * 4096 + 4096 - fixed * 4096) s) → y₂ ≡ withNodeType 0 y₁ → y₃ ≡ withParent 0 y₂ → y₄ ≡ topOf left sep right y₃
+    → y₁ ≡ put 12 (zeros (4096 - 12)) (midOf (fixed * 4096) (fixed * 4096 + 4096 - fixed * 4096) s) → y₂ ≡ withNodeType 0 y₁ → y₃ ≡ withParent 0 y₂ → y₄ ≡ topPage left sep right y₃
     → putMid (fixed * 4096) (fixed * 4096 + 4096 - fixed * 4096) s y₄ ≡ setPage fixed (topIn left sep right (page fixed s)) s
 root-done fixed left sep right s {y₁} {y₂} {y₃} {y₄} fits e f g h =
     back-page fixed s y₄ ∙ rw (h, g, f, e, lent-page fixed s, put-zeros 4096 12 (page fixed s) (length-page fixed s fits) (omega arith))

@@ -13,21 +13,22 @@ use lib.Seq.{drop-cons}
 use borrow.Author.Tests.{lt-ltb, le-ltb, eq-eqb, ne-eqb, not-true, not-false}
 use Rattle.store.specs.Pick.{pick}
 use Rattle.store.specs.Part.{part}
-use Rattle.store.proofs.PartLaws.{le-or-lt}
-use Rattle.store.proofs.PutLaws.{part-none}
 use Rattle.page.specs.Page.{page}
 use Rattle.page.specs.Header.{cellCount}
 use Rattle.row.specs.declared.Fault.{Fault}
-use Rattle.inner.specs.Inner.{childAt, childrenFrom, structural}
+use Rattle.inner.specs.Inner.{childAt, childrenFrom}
+use Rattle.row.specs.Fault.{structural}
 use Rattle.inner.specs.Route.{childPlace}
 use Rattle.tree.specs.declared.climb.Path.{Path}
 use Rattle.tree_grow.specs.Path.{pageAt, pagesAbove}
 use Rattle.tree_grow.specs.Grow.{placeIn}
-use Rattle.tree_grow.specs.Safe.{Stands}
+use Rattle.tree_grow.specs.Steps.Safe.{Stands}
 use Rattle.tree_grow.specs.Plan.{fullPages, divisionOf, pagesAsked, firstMoved, relinksIn, keepsNumber, relinks, inUse, onLinks, planOf}
 use Rattle.tree_grow.specs.declared.plan.Division.{Division}
 use Rattle.tree_grow.specs.declared.plan.Links.{Links}
 use Rattle.tree_grow.specs.declared.plan.Plan.{Plan}
+use Rattle.store.proofs.PartLaws.{le-or-lt}
+use Rattle.store.proofs.PutLaws.{part-none}
 
 -- ---- the pages that are asked for
 

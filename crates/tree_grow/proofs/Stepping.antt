@@ -7,18 +7,18 @@ use native.Mathlib.Omega.{arith}
 use lib.ListN.{length, length-replicate}
 use Rattle.store.specs.Le.{putAt}
 use Rattle.store.specs.Part.{zeros}
-use Rattle.store.proofs.LeLaws.{length-putAt, leAt-putAt}
 use Rattle.page.specs.Page.{page, setPage}
 use Rattle.page.specs.Header.{nodeType, cellCount, withIsRoot, withParent, withCount}
 use Rattle.page.specs.Key.{flip}
 use Rattle.page.specs.Pool.{nextPage, allocated, withFresh}
 use Rattle.page.specs.declared.pool.State.{State}
-use Rattle.page.proofs.PageLaws.{length-page, length-setPage, page-setPage, page-setPage-other}
 use Rattle.inner.specs.Inner.{childAt}
-use Rattle.inner_edit.specs.Edit.{leftHalf, rightHalf, topOf}
+use Rattle.inner_edit.specs.Edit.{leftHalf, rightHalf, topPage}
 use Rattle.tree_grow.specs.Grow.{Grown, topOver, halved, movedTo}
-use Rattle.tree_grow.specs.Safe.{There, Free, HalvedSafe, RelinkSafe, PinSafe}
+use Rattle.tree_grow.specs.Steps.Safe.{There, Free, HalvedSafe, RelinkSafe, PinSafe}
 use Rattle.tree_grow.specs.Plan.{firstMoved}
+use Rattle.store.proofs.LeLaws.{length-putAt, leAt-putAt}
+use Rattle.page.proofs.PageLaws.{length-page, length-setPage, page-setPage, page-setPage-other}
 use Rattle.tree_grow.proofs.Likeness.{Alike, alike-eq, alike-trans, alike-parent, alike-root, Like, like-both, ChildrenThere, adopt-all, like-adopted}
 use Rattle.tree_grow.proofs.Halving.{right-below, left-long, right-long}
 
@@ -161,8 +161,8 @@ relink-safe z s r e =
 
 -- ---- the new top
 
-top-child : (old sep new : ℕ) (pg : List ℕ) → length pg ≡ 4096 → new < 4294967296 → childAt (topOf old sep new pg) 1 ≡ new
-unfolding topOf childAt
+top-child : (old sep new : ℕ) (pg : List ℕ) → length pg ≡ 4096 → new < 4294967296 → childAt (topPage old sep new pg) 1 ≡ new
+unfolding topPage childAt
 top-child old sep new pg len h =
     let a = withCount 1 (withIsRoot 1 pg) in
     let b = putAt 4 a 12 old in
@@ -170,8 +170,8 @@ top-child old sep new pg len h =
     let l : length c ≡ 4096 = length-putAt 4 b 16 (flip sep) ∙ length-putAt 4 a 12 old ∙ length-putAt 2 (withIsRoot 1 pg) 6 1 ∙ length-putAt 1 pg 1 1 ∙ len in
     leAt-putAt 4 c 20 new (omega arith) h
 
-top-long : (old sep new : ℕ) (pg : List ℕ) → length pg ≡ 4096 → length (topOf old sep new pg) ≡ 4096
-unfolding topOf
+top-long : (old sep new : ℕ) (pg : List ℕ) → length pg ≡ 4096 → length (topPage old sep new pg) ≡ 4096
+unfolding topPage
 top-long old sep new pg len = rw (length-putAt, length-putAt, length-putAt, length-putAt, length-putAt) len
 
 module _ (old sep new : ℕ) (g : Grown) (free : Free g) (low : old < g .state .used) (fresh : new < g .state .used) where
@@ -194,7 +194,7 @@ module _ (old sep new : ℕ) (g : Grown) (free : Free g) (low : old < g .state .
   t-long = length-page t s₀ t-there
 
   abbrev x : List ℕ
-  x = topOf old sep new (page t s₀)
+  x = topPage old sep new (page t s₀)
 
   x-long : length x ≡ 4096
   x-long = top-long old sep new (page t s₀) t-long

@@ -7,13 +7,13 @@ use lib.Dec.{ltb, eqb}
 use Rattle.store.specs.Pick.{pick}
 use Rattle.store.specs.Part.{part, pad}
 use Rattle.page.specs.Page.{page, setPage}
-use Rattle.page.specs.Header.{nodeType, cellCount, withNodeType, withIsRoot, withParent}
+use Rattle.page.specs.Header.{nodeType, cellCount, withNodeType, withIsRoot, withParent, headerSize, nodeInternal}
 use Rattle.page.specs.Pool.{nextPage, allocated, withFresh}
 use Rattle.page.specs.Key.{rankAt}
 use Rattle.page.specs.declared.pool.State.{State}
-use Rattle.inner.specs.Inner.{keyAt, childAt, childrenOf}
+use Rattle.inner.specs.Inner.{keyAt, childAt, childrenOf, maxKeys}
 use Rattle.inner.specs.Route.{childPlace}
-use Rattle.inner_edit.specs.Edit.{withEntry, leftHalf, middleKey, rightHalf, topOf, adopted}
+use Rattle.inner_edit.specs.Edit.{withEntry, leftHalf, middleKey, rightHalf, topPage, adopted}
 
 -- the pool and the tree's numbers, which change together
 pub record Grown : Type 0 where
@@ -35,7 +35,7 @@ unfoldable pub topOver : (old sep new : ℕ) → Grown → Grown
 topOver old sep new g = topAt (nextPage (g .pool) (g .state)) (withFresh (g .pool) (g .state)) (allocated (g .pool) (g .state) .state)
   where
     topAt : ℕ → List ℕ → State → Grown
-    topAt t s st = grown (linkedBoth old new t (setPage t (topOf old sep new (page t s)) s)) (record { root = t; used = st .used })
+    topAt t s st = grown (linkedBoth old new t (setPage t (topPage old sep new (page t s)) s)) (record { root = t; used = st .used })
 
 -- the place of the child old in page p: the first one
 abbrev pub placeIn : (old : ℕ) → List ℕ → ℕ
@@ -57,13 +57,9 @@ halved p i sep new g = halvedAt (nextPage (g .pool) (g .state)) (withFresh (g .p
 unfoldable pub enterOf : (ps : List ℕ) → (old sep new : ℕ) → Grown → Grown
 enterOf [] old sep new g = topOver old sep new g
 enterOf (p ∷ ps) old sep new g =
-    pick (ltb (cellCount (page p (g .pool))) 510) (joinedTo p old sep new g)
+    pick (ltb (cellCount (page p (g .pool))) maxKeys) (joinedTo p old sep new g)
     (enterOf ps p (middleKey (placeIn old (page p (g .pool))) sep new (page p (linked new p (g .pool)))) (nextPage (linked new p (g .pool)) (g .state))
     (halved p (placeIn old (page p (g .pool))) sep new (grown (linked new p (g .pool)) (g .state))))
-
--- page p divides, and its right half is entered above it
-abbrev pub divideOf : (ps : List ℕ) → (p i sep new : ℕ) → Grown → Grown
-divideOf ps p i sep new g = enterOf ps p (middleKey i sep new (page p (g .pool))) (nextPage (g .pool) (g .state)) (halved p i sep new g)
 
 -- ---- "Any other root keeps its number: the new top's content goes to it, its old image, is-root cleared, to one more
 -- page, and the spent top page is lost"
@@ -74,11 +70,11 @@ movedTo fixed z s = setPage z (withParent fixed (withIsRoot 0 (page fixed s))) s
 
 -- the children of an internal page z are linked to it
 unfoldable pub relinked : (z : ℕ) → List ℕ → List ℕ
-relinked z s = pick (eqb (nodeType (page z s)) 0) (adopted (cellCount (page z s) + 1) 0 z z s) s
+relinked z s = pick (eqb (nodeType (page z s)) nodeInternal) (adopted (cellCount (page z s) + 1) 0 z z s) s
 
 -- the top's content in the page that was the root; its bytes 8 to 11 stay
 abbrev pub topIn : (left sep right : ℕ) → List ℕ → List ℕ
-topIn left sep right pg = topOf left sep right (withParent 0 (withNodeType 0 (pad 4096 (part 0 12 pg))))
+topIn left sep right pg = topPage left sep right (withParent 0 (withNodeType nodeInternal (pad 4096 (part 0 headerSize pg))))
 
 unfoldable pub pinOf : (fixed : ℕ) → Grown → Grown
 pinOf fixed g =
@@ -98,4 +94,4 @@ keptRoot original g = pick (eqb original 0) g (pick (eqb (g .state .root) origin
 
 -- the leaf p has divided, and page q is its right side, whose first key goes up
 unfoldable pub settled : (ps : List ℕ) → (p q : ℕ) → Grown → Grown
-settled ps p q g = keptRoot (g .state .root) (enterOf ps p (rankAt (page q (g .pool)) 12) q g)
+settled ps p q g = keptRoot (g .state .root) (enterOf ps p (rankAt (page q (g .pool)) headerSize) q g)

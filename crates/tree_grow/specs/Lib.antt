@@ -1,6 +1,5 @@
 -- What a reader of the contracts of `tree_grow` has to believe.
 pub mod Path
 pub mod Grow
-pub mod Safe
 pub mod Plan
-pub mod PlanFacts
+pub mod Steps

@@ -10,16 +10,18 @@ use Rattle.store.specs.Pick.{pick}
 use Rattle.page.specs.Page.{page}
 use Rattle.page.specs.Header.{cellCount}
 use Rattle.row.specs.declared.Fault.{Fault}
-use Rattle.inner.specs.Inner.{childrenFrom, structural}
+use Rattle.inner.specs.Inner.{childrenFrom, maxKeys}
+use Rattle.row.specs.Fault.{structural}
 use Rattle.tree_grow.specs.Grow.{placeIn}
 use Rattle.tree_grow.specs.declared.plan.Division.{Division}
 use Rattle.tree_grow.specs.declared.plan.Links.{Links}
 use Rattle.tree_grow.specs.declared.plan.Plan.{Plan}
+use Rattle.inner_edit.specs.Edit.{keptKeys}
 
 -- the pages that divide: those with 510 keys, from the nearest on
 unfoldable pub fullPages : List ℕ → List ℕ → ℕ
 fullPages [] s = 0
-fullPages (p ∷ ps) s = pick (eqb (cellCount (page p s)) 510) (suc (fullPages ps s)) 0
+fullPages (p ∷ ps) s = pick (eqb (cellCount (page p s)) maxKeys) (suc (fullPages ps s)) 0
 
 -- the root grows where they all divide
 unfoldable pub divisionOf : List ℕ → List ℕ → Division
@@ -32,7 +34,7 @@ pagesAsked root d = d .full + pick (d .grows) (pick (eqb root 0) 1 2) 0
 
 -- of a page with 511 children and a pair to come after child i: the first child that goes to the right page
 abbrev pub firstMoved : ℕ → ℕ
-firstMoved i = pick (ltb i 255) 255 256
+firstMoved i = pick (ltb i keptKeys) keptKeys 256
 
 -- its children that get a new parent link: those that go, and those that stay too where it is a root that is relocated
 unfoldable pub relinksIn : (i : ℕ) → (relocated : Bool) → List ℕ → List ℕ
@@ -46,7 +48,7 @@ keepsNumber p (q ∷ qs) = false
 -- all of them, the nearest page's first
 unfoldable pub relinks : (old : ℕ) → List ℕ → List ℕ → List ℕ
 relinks old [] s = []
-relinks old (p ∷ ps) s = pick (eqb (cellCount (page p s)) 510) (relinksIn (placeIn old (page p s)) (keepsNumber p ps) (page p s) ++ relinks p ps s) []
+relinks old (p ∷ ps) s = pick (eqb (cellCount (page p s)) maxKeys) (relinksIn (placeIn old (page p s)) (keepsNumber p ps) (page p s) ++ relinks p ps s) []
 
 -- "must be a page in use": all are, or the first that is not
 unfoldable pub inUse : (used : ℕ) → List ℕ → Links

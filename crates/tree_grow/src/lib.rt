@@ -9,8 +9,9 @@ ghost use Rattle.page.specs.Header.{cellCount};
 ghost use Rattle.page.specs.Key.{rankAt};
 ghost use Rattle.inner_edit.specs.Edit.{withEntry};
 ghost use Rattle.tree_grow.specs.Path.{pageAt, pagesAbove};
-ghost use Rattle.tree_grow.specs.Grow.{grown, linkedBoth, topOver, enterOf, divideOf, movedTo, relinked, topIn, pinOf, keptRoot, settled};
-ghost use Rattle.tree_grow.specs.Safe.{There, Free, EnterSafe, DivideSafe, RelinkSafe, PinSafe, AboveSafe};
+ghost use Rattle.tree_grow.specs.Grow.{grown, linkedBoth, topOver, enterOf, movedTo, relinked, topIn, pinOf, keptRoot, settled};
+ghost use Rattle.tree_grow.specs.Steps.Grow.{divideOf};
+ghost use Rattle.tree_grow.specs.Steps.Safe.{There, Free, EnterSafe, DivideSafe, RelinkSafe, PinSafe, AboveSafe};
 use page::PAGE_SIZE;
 use page::pool::State;
 use tree::climb::Path;
@@ -64,7 +65,7 @@ fn enter(pool: &mut [u8], st: State, path: Path, level: usize, sep: u32, new: u3
     let pg = page::pool::page_of(pool, p);
     let n = page::get_cell_count(pg) as usize;
     let i = inner::child_place(pg, n + 1, old);
-    if n < 510 {
+    if n < inner::MAX_KEYS {
         join(pool, p, i, n, old, sep, new);
         return st;
     }
@@ -82,7 +83,7 @@ fn divide(pool: &mut [u8], st: State, path: Path, at: usize, i: usize, sep: u32,
     let q = a.page;
     let after = a.state;
     let middle = inner_edit::divide(pool, p, q, i, sep, new);
-    inner_edit::adopt(pool, 256, 0, q, q);
+    inner_edit::adopt(pool, inner_edit::KEPT_CHILDREN, 0, q, q);
     enter(pool, after, path, at, middle, q)
 }
 
@@ -105,7 +106,7 @@ fn relink(pool: &mut [u8], z: u32)
 {
     let pg = page::pool::page_of(pool, z);
     let n = page::get_cell_count(pg) as usize;
-    if page::get_node_type(pg) == 0 {
+    if page::get_node_type(pg) == page::NODE_INTERNAL {
         inner_edit::adopt(pool, n + 1, 0, z, z);
     }
 }
@@ -117,8 +118,8 @@ fn write_root(pool: &mut [u8], fixed: u32, left: u32, sep: u32, right: u32)
     let a = fixed as usize * PAGE_SIZE;
     let e = a + PAGE_SIZE;
     let pg = &mut pool[a..e];
-    store::run::zero_fill(pg, 12, PAGE_SIZE);
-    page::set_node_type(pg, 0);
+    store::run::zero_fill(pg, page::HEADER_SIZE, PAGE_SIZE);
+    page::set_node_type(pg, page::NODE_INTERNAL);
     page::set_parent(pg, 0);
     inner_edit::write_top(pg, left, sep, right);
 }
@@ -163,7 +164,7 @@ pub fn settle(pool: &mut [u8], st: State, path: Path, q: u32) -> State
     requires { ⌜ AboveSafe (st .root) (pageAt path 0) (rankAt (page q (now pool)) 12) q (pagesAbove path 0) (grown (now pool) st) ⌝ }
     ensures { λ r. ⌜ grown (now (pool .exit)) r ≡ settled (pagesAbove path 0) (pageAt path 0) q (grown (now (pool .entry)) st) ⌝ }
 {
-    let sep = page::key::get_rank(page::pool::page_of(pool, q), 12);
+    let sep = page::key::get_rank(page::pool::page_of(pool, q), page::HEADER_SIZE);
     let root = st.root;
     let after = enter(pool, st, path, 0, sep, q);
     keep_root(pool, after, root)

@@ -5,8 +5,10 @@ ghost use Prim.Native.Nat.{_+_, _-_, _*_, _≤_, _<_};
 ghost use lib.ListN.{length};
 ghost use Rattle.inner.specs.Inner.{childrenFrom};
 ghost use Rattle.tree_grow.specs.Path.{pageAt, pagesAbove};
-ghost use Rattle.tree_grow.specs.Safe.{Stands};
+ghost use Rattle.tree_grow.specs.Steps.Safe.{Stands};
 ghost use Rattle.tree_grow.specs.Plan.{pagesAsked, firstMoved, relinksIn, inUse, planOf};
+use inner_edit::KEPT_CHILDREN;
+use inner_edit::KEPT_KEYS;
 use row::Fault;
 use tree::climb::Path;
 
@@ -51,7 +53,7 @@ fn links_from(pg: &[u8], used: u32, i: usize, n: usize) -> Links
     while 0 < left {
         let c = inner::child_at(pg, k);
         if used <= c {
-            return Links::Bad(leaf::structural_fault(c));
+            return Links::Bad(row::structural_fault(c));
         }
         k += 1;
         left -= 1;
@@ -62,7 +64,11 @@ fn links_from(pg: &[u8], used: u32, i: usize, n: usize) -> Links
 fn first_moved(i: usize) -> usize
     ensures { λ r. ⌜ r ≡ firstMoved i ⌝ }
 {
-    if i < 255 { 255 } else { 256 }
+    if i < KEPT_KEYS {
+        KEPT_KEYS
+    } else {
+        KEPT_CHILDREN
+    }
 }
 
 // The children of a page that divides, with a pair to come after child i.
@@ -71,7 +77,7 @@ fn links_in(pg: &[u8], used: u32, i: usize, relocated: bool) -> Links
     ensures { λ r. ⌜ r ≡ inUse used (relinksIn i relocated (now (pg .entry))) ⌝ }
 {
     let first = first_moved(i);
-    match links_from(pg, used, first, 511 - first) {
+    match links_from(pg, used, first, inner::MAX_CHILDREN - first) {
         Links::Bad(f) => Links::Bad(f),
         Links::InUse => {
             if relocated {
@@ -91,10 +97,10 @@ pub fn plan_above(pool: &[u8], used: u32, path: Path) -> Plan
     while full + 1 < path.len {
         let p = path.pages[full + 1];
         let pg = page::pool::page_of(pool, p);
-        if page::get_cell_count(pg) < 510 {
+        if page::get_cell_count(pg) < inner::FULL {
             return Plan::Ok(Division { full, grows: false });
         }
-        let i = inner::child_place(pg, 511, path.pages[full]);
+        let i = inner::child_place(pg, inner::MAX_CHILDREN, path.pages[full]);
         let top = full + 2 == path.len;
         match links_in(pg, used, i, top & (p != 0)) {
             Links::Bad(f) => return Plan::Bad(f),

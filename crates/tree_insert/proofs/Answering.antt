@@ -9,23 +9,23 @@ use lib.ListN.{length}
 use borrow.Author.Tests.{eqb-true}
 use Rattle.store.specs.Pick.{pick}
 use Rattle.page.specs.declared.pool.State.{State}
-use Rattle.mvcc.specs.Lists.{lookup}
-use Rattle.mvcc.specs.Rules.{plainXmax, plainActive}
+use Rattle.mvcc.specs.Snapshot.{lookup, creatorOf, Statuses, plainSnapshot}
 use Rattle.mvcc.specs.declared.Current.{Current}
 use Rattle.tree.specs.Lookup.{bestInTree}
 use Rattle.tree.specs.declared.ChainBest.{ChainBest}
-use Rattle.tree_room.specs.Room.{noFault, planned, roomOf}
+use Rattle.row.specs.Fault.{noFault}
+use Rattle.tree_room.specs.Room.{planned, roomOf}
 use Rattle.tree_room.specs.declared.Planned.{Planned}
-use Rattle.tree_room.proofs.Telling.{plan-told}
 use Rattle.tree_insert.specs.Spot.{spotOf}
 use Rattle.tree_insert.specs.Insert.{bytesWith, insertPlan}
-use Rattle.tree_insert.specs.Ready.{ready, notReady, onSpot, readyAt, versionAt, creatorOf, isSeen, onChain, newAt}
+use Rattle.tree_insert.specs.Ready.{ready, notReady, onSpot, readyAt, versionAt, isSeen, onChain, newAt}
 use Rattle.tree_insert.specs.declared.Spot.{Spot}
 use Rattle.tree_insert.specs.declared.Spotted.{Spotted}
 use Rattle.tree_insert.specs.declared.ready.Ready.{Ready}
+use Rattle.tree_room.proofs.Telling.{plan-told}
 
 pub record Storable (s : List ℕ) (st : State) (key creator m : ℕ) (r : Ready) : Type 0 where
-  pub spots : spotOf (st .used) (st .root) key creator s ≡ Spotted.Ok (r .spot)
+  pub spots : spotOf s (st .used) (st .root) key creator ≡ Spotted.Ok (r .spot)
   pub plans : insertPlan st (r .spot) m s ≡ planned (r .plan)
   pub fits : roomOf (length s / 4096) st (bytesWith (r .spot) m) (r .plan) ≡ 0
 
@@ -34,7 +34,7 @@ unfolding insertPlan
 ok-planned st x m s = plan-told st (x .leaf) _ _ s
 
 module _ (s : List ℕ) (st : State) (key creator m : ℕ) where
-  pub at-ok : (seen : Bool) (x : Spot) → spotOf (st .used) (st .root) key creator s ≡ Spotted.Ok x → readyAt s st seen x m .ok ≡ true
+  pub at-ok : (seen : Bool) (x : Spot) → spotOf s (st .used) (st .root) key creator ≡ Spotted.Ok x → readyAt s st seen x m .ok ≡ true
       → Storable s st key creator m (readyAt s st seen x m)
   unfolding readyAt
   at-ok seen x sp h = by-ok (insertPlan st x m s .ok) (insertPlan st x m s .plan) (roomOf (length s / 4096) st (bytesWith x m) (insertPlan st x m s .plan)) refl refl (λ q. ok-planned st x m s q) h
@@ -59,25 +59,25 @@ module _ (s : List ℕ) (st : State) (key creator m : ℕ) where
 
   pub version-ok : versionAt s st key creator m .ok ≡ true → Storable s st key creator m (versionAt s st key creator m)
   unfolding versionAt
-  version-ok h = by-spot (spotOf (st .used) (st .root) key creator s) refl h
+  version-ok h = by-spot (spotOf s (st .used) (st .root) key creator) refl h
     where
-      by-spot : (z : Spotted) → spotOf (st .used) (st .root) key creator s ≡ z → onSpot (λ x. readyAt s st false x m) (notReady 2) z .ok ≡ true
+      by-spot : (z : Spotted) → spotOf s (st .used) (st .root) key creator ≡ z → onSpot (λ x. readyAt s st false x m) (notReady 2) z .ok ≡ true
           → Storable s st key creator m (onSpot (λ x. readyAt s st false x m) (notReady 2) z)
       by-spot (Spotted.Ok x) e u = at-ok false x e u
       by-spot (Spotted.Bad f) e u = absurd (let z : _≡_ {A = ℕ} 0 1 = cc in omega arith)
 
-module _ (s : List ℕ) (st : State) (key : ℕ) (cur : Current) (ids states : List ℕ) (m : ℕ) where
-  pub new-ok : newAt s st key cur ids states m .ok ≡ true → Storable s st key (creatorOf cur) m (newAt s st key cur ids states m)
+module _ (s : List ℕ) (st : State) (key : ℕ) (cur : Current) (ss : Statuses) (m : ℕ) where
+  pub new-ok : newAt s st key cur ss m .ok ≡ true → Storable s st key (creatorOf cur) m (newAt s st key cur ss m)
   unfolding newAt
-  new-ok h = by-spot (bestInTree (lookup ids states) plainActive plainXmax cur (st .used) (st .root) key s) (spotOf (st .used) (st .root) key (creatorOf cur) s) refl h
+  new-ok h = by-spot (bestInTree s (st .used) (st .root) key (plainSnapshot cur) (lookup ss)) (spotOf s (st .used) (st .root) key (creatorOf cur)) refl h
     where
-      by-chain : (x : Spot) → spotOf (st .used) (st .root) key (creatorOf cur) s ≡ Spotted.Ok x → (y : ChainBest)
+      by-chain : (x : Spot) → spotOf s (st .used) (st .root) key (creatorOf cur) ≡ Spotted.Ok x → (y : ChainBest)
           → onChain (λ b. readyAt s st (isSeen b) x m) (notReady 2) y .ok ≡ true
           → Storable s st key (creatorOf cur) m (onChain (λ b. readyAt s st (isSeen b) x m) (notReady 2) y)
       by-chain x e (ChainBest.Ok b) u = at-ok s st key (creatorOf cur) m (isSeen b) x e u
       by-chain x e (ChainBest.Bad f) u = absurd (let z : _≡_ {A = ℕ} 0 1 = cc in omega arith)
 
-      by-spot : (y : ChainBest) (z : Spotted) → spotOf (st .used) (st .root) key (creatorOf cur) s ≡ z
+      by-spot : (y : ChainBest) (z : Spotted) → spotOf s (st .used) (st .root) key (creatorOf cur) ≡ z
           → onSpot (λ x. onChain (λ b. readyAt s st (isSeen b) x m) (notReady 2) y) (notReady 2) z .ok ≡ true
           → Storable s st key (creatorOf cur) m (onSpot (λ x. onChain (λ b. readyAt s st (isSeen b) x m) (notReady 2) y) (notReady 2) z)
       by-spot y (Spotted.Ok x) e u = by-chain x e y u

@@ -13,17 +13,18 @@ use Rattle.store.proofs.PartLaws.{le-or-lt}
 use Rattle.page.specs.Page.{page}
 use Rattle.page.specs.Header.{cellCount}
 use Rattle.row.specs.declared.Cell.{Cell}
-use Rattle.row.proofs.Exact.{cell-placed}
 use Rattle.leaf.specs.Cells.{cellsOf, cells}
 use Rattle.leaf.specs.Place.{largerSide, cutOf, sizesOf, cutLeaf, cutFits}
-use Rattle.leaf.specs.CutFacts.{sum, Between, Chosen}
+use Rattle.leaf.specs.CutFacts.{sum, Between, BestCut}
 use Rattle.leaf.specs.declared.place.Cut.{Cut}
+use Rattle.tree_insert.specs.Insert.{bytesWith, cutWith}
+use Rattle.tree_insert.specs.Steps.Insert.{InsertCutStands}
+use Rattle.tree_insert.specs.declared.Spot.{Spot}
+use Rattle.row.proofs.Exact.{cell-placed}
 use Rattle.leaf.proofs.CutFacts.{cut-is-best}
 use Rattle.leaf.proofs.Rowing.{endOf}
 use Rattle.leaf.proofs.Chain.{Chain, chain-cells, chain-back, chain-right, end-append, judged-leaf}
 use Rattle.tree.proofs.Ways.{and-both}
-use Rattle.tree_insert.specs.Insert.{bytesWith, cutWith, InsertCutStands}
-use Rattle.tree_insert.specs.declared.Spot.{Spot}
 use Rattle.tree_insert.proofs.Spotting.{SpotIs}
 
 -- ---- sums
@@ -151,7 +152,7 @@ cut-stands used key creator s x m is lo hi over fits =
     let between : Between 1 4096 all =
     between-append 1 4096 xs (m ∷ ys) (rw (is .sound .whole) at (sizes-between pg 12 (d .first) (d .chain)))
     (omega arith, omega arith, rw (is .sound .whole) at (sizes-between pg (x .place .at) (d .rest) (d .chain-on))) in
-    let ch : Chosen all (cutWith x m pg) = subst (Chosen all) (sym cut-is) (cut-is-best all 4096 some between) in
+    let ch : BestCut all (cutWith x m pg) = subst (BestCut all) (sym cut-is) (cut-is-best all 4096 some between) in
     let i = cutWith x m pg .cells in
     let bytes : cutWith x m pg .bytes ≡ sum (take i all) = ap (λ (c : Cut). c .bytes) (ch .place) in
     let side = fits-is (bytesWith x m) (cutWith x m pg) fits .1 in

@@ -8,23 +8,24 @@ use borrow.Author.Tests.{eq-eqb, ne-eqb, not-true, not-false}
 use Rattle.store.specs.Part.{zeros}
 use Rattle.page.specs.declared.pool.State.{State}
 use Rattle.row.specs.declared.Fault.{Fault}
-use Rattle.mvcc.specs.Lists.{rising, lookup}
-use Rattle.mvcc.specs.Rules.{plainXmax, plainActive}
+use Rattle.mvcc.specs.Lists.{rising}
+use Rattle.mvcc.specs.Snapshot.{lookup, creatorOf, Statuses, plainSnapshot}
 use Rattle.mvcc.specs.declared.Current.{Current}
 use Rattle.leaf.specs.declared.find.Best.{Best}
 use Rattle.tree.specs.Lookup.{bestInTree}
 use Rattle.tree.specs.declared.ChainBest.{ChainBest}
-use Rattle.tree_room.specs.Room.{noFault, fitting, planned, roomOf}
+use Rattle.row.specs.Fault.{noFault}
+use Rattle.tree_room.specs.Room.{fitting, planned, roomOf}
 use Rattle.tree_room.specs.declared.Planned.{Planned}
 use Rattle.tree_room.specs.declared.LeafPlan.{LeafPlan}
-use Rattle.tree_room.proofs.Keeping.{planned-is}
-use Rattle.tree_room.proofs.Telling.{plan-told}
 use Rattle.tree_insert.specs.Spot.{spotOf}
 use Rattle.tree_insert.specs.Insert.{bytesWith, insertPlan}
-use Rattle.tree_insert.specs.Ready.{ready, notReady, readyByRoom, readyAt, versionAt, creatorOf, isSeen, onChain, newAt}
+use Rattle.tree_insert.specs.Ready.{ready, notReady, readyByRoom, readyAt, versionAt, isSeen, onChain, newAt}
 use Rattle.tree_insert.specs.declared.Spot.{Spot}
 use Rattle.tree_insert.specs.declared.Spotted.{Spotted}
 use Rattle.tree_insert.specs.declared.ready.Ready.{Ready}
+use Rattle.tree_room.proofs.Keeping.{planned-is}
+use Rattle.tree_room.proofs.Telling.{plan-told}
 
 pub none-ready : (n : ℕ) (f : Fault) {x : Planned} → x ≡ fitting (record { pages = zeros 4; len = 0 })
     → _≡_ {A = Ready}
@@ -65,7 +66,7 @@ module _ (s : List ℕ) (st : State) (x : Spot) (m : ℕ) {told : LeafPlan} (pla
 
 -- ---- the spot, and the chain that is searched
 
-module _ (s : List ℕ) (st : State) (key creator m : ℕ) {z : Spotted} (is : z ≡ spotOf (st .used) (st .root) key creator s) {r : Ready} where
+module _ (s : List ℕ) (st : State) (key creator m : ℕ) {z : Spotted} (is : z ≡ spotOf s (st .used) (st .root) key creator) {r : Ready} where
   pub version-lost : {f : Fault} → z ≡ Spotted.Bad f → r ≡ notReady 2 f → r ≡ versionAt s st key creator m
   unfolding versionAt
   version-lost h e = e ∙ rw (← is, h)
@@ -74,15 +75,15 @@ module _ (s : List ℕ) (st : State) (key creator m : ℕ) {z : Spotted} (is : z
   unfolding versionAt
   version-found h e = e ∙ rw (← is, h)
 
-module _ (s : List ℕ) (st : State) (key : ℕ) (cur : Current) (ids states : List ℕ) (m : ℕ) {who : ℕ} (by : who ≡ creatorOf cur) {z : Spotted}
-    (is : z ≡ spotOf (st .used) (st .root) key who s) {r : Ready} where
-  pub new-lost : {f : Fault} → z ≡ Spotted.Bad f → r ≡ notReady 2 f → r ≡ newAt s st key cur ids states m
+module _ (s : List ℕ) (st : State) (key : ℕ) (cur : Current) (ss : Statuses) (m : ℕ) {who : ℕ} (by : who ≡ creatorOf cur) {z : Spotted}
+    (is : z ≡ spotOf s (st .used) (st .root) key who) {r : Ready} where
+  pub new-lost : {f : Fault} → z ≡ Spotted.Bad f → r ≡ notReady 2 f → r ≡ newAt s st key cur ss m
   unfolding newAt
   new-lost h e = e ∙ rw (← by, ← is, h)
 
   pub new-found : {x : Spot} → z ≡ Spotted.Ok x
-      → r ≡ onChain (λ b. readyAt s st (isSeen b) x m) (notReady 2) (bestInTree (lookup ids states) plainActive plainXmax cur (st .used) (st .root) key s)
-      → r ≡ newAt s st key cur ids states m
+      → r ≡ onChain (λ b. readyAt s st (isSeen b) x m) (notReady 2) (bestInTree s (st .used) (st .root) key (plainSnapshot cur) (lookup ss))
+      → r ≡ newAt s st key cur ss m
   unfolding newAt
   new-found h e = e ∙ rw (← by, ← is, h)
 

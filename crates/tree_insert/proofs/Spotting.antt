@@ -12,11 +12,10 @@ use Rattle.store.specs.Pick.{pick}
 use Rattle.store.specs.Le.{AreBytes}
 use Rattle.page.specs.Page.{page}
 use Rattle.page.specs.Header.{nodeType, cellCount}
-use Rattle.page.proofs.PageLaws.{length-page}
 use Rattle.row.specs.declared.Cell.{Cell}
 use Rattle.row.specs.declared.Fault.{Fault}
-use Rattle.row.proofs.Exact.{cell-placed}
-use Rattle.inner.specs.Inner.{judgeInner, structural}
+use Rattle.inner.specs.Inner.{judgeInner}
+use Rattle.row.specs.Fault.{structural}
 use Rattle.inner.specs.declared.InnerJudged.{InnerJudged}
 use Rattle.leaf.specs.Cells.{cells, foldCells, inOrder, judgeLeaf, onJudged}
 use Rattle.leaf.specs.Place.{placeStep, placeOf, placeLeaf}
@@ -24,17 +23,19 @@ use Rattle.leaf.specs.RowFacts.{Sound}
 use Rattle.leaf.specs.declared.Judged.{Judged}
 use Rattle.leaf.specs.declared.place.Place.{Place}
 use Rattle.leaf.specs.declared.place.LeafPlace.{LeafPlace}
-use Rattle.leaf.proofs.Bytes.{bytes-page}
-use Rattle.leaf.proofs.Rowing.{endOf}
-use Rattle.leaf.proofs.Chain.{Chain, chain-cells, judged-leaf}
-use Rattle.leaf.proofs.Placed.{PlaceSplit, place-split}
-use Rattle.leaf.proofs.Choosing.{any-page}
 use Rattle.tree.specs.Descend.{onInner, childOf, descendOf, onLeaf}
 use Rattle.tree.specs.declared.Route.{Route}
 use Rattle.tree.specs.declared.Descent.{Descent}
 use Rattle.tree_insert.specs.Spot.{spotIn, spotOf}
 use Rattle.tree_insert.specs.declared.Spot.{Spot}
 use Rattle.tree_insert.specs.declared.Spotted.{Spotted}
+use Rattle.page.proofs.PageLaws.{length-page}
+use Rattle.row.proofs.Exact.{cell-placed}
+use Rattle.leaf.proofs.Bytes.{bytes-page}
+use Rattle.leaf.proofs.Rowing.{endOf}
+use Rattle.leaf.proofs.Chain.{Chain, chain-cells, judged-leaf}
+use Rattle.leaf.proofs.Placed.{PlaceSplit, place-split}
+use Rattle.leaf.proofs.Choosing.{any-page}
 
 -- ---- the leaf that a descent comes to
 
@@ -67,19 +68,19 @@ module _ (route : Route) (used : ℕ) (s : List ℕ) where
 -- ---- the ways out
 
 module _ (used root key creator : ℕ) (s : List ℕ) {d : Descent} (way : d ≡ descendOf 3 (Route.Insert key) used root s) where
-  pub spot-lost : {f : Fault} → d ≡ Descent.Bad f → Spotted.Bad f ≡ spotOf used root key creator s
+  pub spot-lost : {f : Fault} → d ≡ Descent.Bad f → Spotted.Bad f ≡ spotOf s used root key creator
   unfolding spotOf
   spot-lost e = rw (sym way ∙ e)
 
-  module _ {p : ℕ} {pg : List ℕ} {r : LeafPlace} (e : d ≡ Descent.Leaf p) (here : pg ≡ page p s) (said : r ≡ placeLeaf p key creator pg) where
-    placed-is : placeLeaf p key creator (page p s) ≡ r
+  module _ {p : ℕ} {pg : List ℕ} {r : LeafPlace} (e : d ≡ Descent.Leaf p) (here : pg ≡ page p s) (said : r ≡ placeLeaf pg p key creator) where
+    placed-is : placeLeaf (page p s) p key creator ≡ r
     placed-is = rw (← here) (sym said)
 
-    pub spot-bad : {f : Fault} → r ≡ LeafPlace.Bad f → Spotted.Bad f ≡ spotOf used root key creator s
+    pub spot-bad : {f : Fault} → r ≡ LeafPlace.Bad f → Spotted.Bad f ≡ spotOf s used root key creator
     unfolding spotOf
     spot-bad q = rw (sym way ∙ e, placed-is ∙ q)
 
-    pub spot-there : {x : Place} {n : ℕ} → r ≡ LeafPlace.Ok x n → Spotted.Ok (record { leaf = p; place = x; end = n }) ≡ spotOf used root key creator s
+    pub spot-there : {x : Place} {n : ℕ} → r ≡ LeafPlace.Ok x n → Spotted.Ok (record { leaf = p; place = x; end = n }) ≡ spotOf s used root key creator
     unfolding spotOf
     spot-there q = rw (sym way ∙ e, placed-is ∙ q)
 
@@ -107,7 +108,7 @@ pub record PlaceIs (pg : List ℕ) (p k c : ℕ) (x : Place) (e : ℕ) : Type 0 
   pub judged : judgeLeaf p pg ≡ Judged.Ok e
   pub place : x ≡ placeOf k c (cells pg)
 
-pub place-is : (pg : List ℕ) (p k c : ℕ) {x : Place} {e : ℕ} → placeLeaf p k c pg ≡ LeafPlace.Ok x e → PlaceIs pg p k c x e
+pub place-is : (pg : List ℕ) (p k c : ℕ) {x : Place} {e : ℕ} → placeLeaf pg p k c ≡ LeafPlace.Ok x e → PlaceIs pg p k c x e
 unfolding placeLeaf
 place-is pg p k c {x} {e} h = by-judged (judgeLeaf p pg) refl h
   where
@@ -136,22 +137,22 @@ record Told (used key creator : ℕ) (s : List ℕ) (x : Spot) : Type 0 where
   leaf : LeafIn used (x .leaf) s
   placed : PlaceIs (page (x .leaf) s) (x .leaf) key creator (x .place) (x .end)
 
-told : (used root key creator : ℕ) (s : List ℕ) (x : Spot) → spotOf used root key creator s ≡ Spotted.Ok x → Told used key creator s x
+told : (used root key creator : ℕ) (s : List ℕ) (x : Spot) → spotOf s used root key creator ≡ Spotted.Ok x → Told used key creator s x
 unfolding spotOf
 told used root key creator s x e = by-way (descendOf 3 (Route.Insert key) used root s) refl e
   where
-    by-place : (p : ℕ) (r : LeafPlace) → LeafIn used p s → placeLeaf p key creator (page p s) ≡ r → spotIn p r ≡ Spotted.Ok x → Told used key creator s x
+    by-place : (p : ℕ) (r : LeafPlace) → LeafIn used p s → placeLeaf (page p s) p key creator ≡ r → spotIn p r ≡ Spotted.Ok x → Told used key creator s x
     by-place p (LeafPlace.Ok here n) l q w =
         let same : record { leaf = p; place = here; end = n } ≡ x = cc in
         rw (← same) (record { leaf = l; placed = place-is (page p s) p key creator q })
     by-place p (LeafPlace.Bad f) l q w = absurd (let z : _≡_ {A = ℕ} 0 1 = cc in omega arith)
 
     by-way : (d : Descent) → descendOf 3 (Route.Insert key) used root s ≡ d
-        → onLeaf (λ p. spotIn p (placeLeaf p key creator (page p s))) (λ f. Spotted.Bad f) d ≡ Spotted.Ok x → Told used key creator s x
-    by-way (Descent.Leaf p) q w = by-place p (placeLeaf p key creator (page p s)) (leaf-in (Route.Insert key) used s 3 root q) refl w
+        → onLeaf (λ p. spotIn p (placeLeaf (page p s) p key creator)) (λ f. Spotted.Bad f) d ≡ Spotted.Ok x → Told used key creator s x
+    by-way (Descent.Leaf p) q w = by-place p (placeLeaf (page p s) p key creator) (leaf-in (Route.Insert key) used s 3 root q) refl w
     by-way (Descent.Bad f) q w = absurd (let z : _≡_ {A = ℕ} 0 1 = cc in omega arith)
 
-pub spot-is : (used root key creator : ℕ) (s : List ℕ) (x : Spot) → AreBytes s → used * 4096 ≤ length s → spotOf used root key creator s ≡ Spotted.Ok x
+pub spot-is : (used root key creator : ℕ) (s : List ℕ) (x : Spot) → AreBytes s → used * 4096 ≤ length s → spotOf s used root key creator ≡ Spotted.Ok x
     → SpotIs used key creator s x
 unfolding placeOf
 spot-is used root key creator s x B room e =

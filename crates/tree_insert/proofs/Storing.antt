@@ -11,34 +11,35 @@ use lib.Dec.{ltb}
 use lib.ListN.{length}
 use Rattle.store.specs.Le.{AreBytes}
 use Rattle.store.specs.Part.{part, zeros}
-use Rattle.store.proofs.PutLaws.{length-spliced}
-use Rattle.store.proofs.SeamLaws.{spliced-before}
 use Rattle.page.specs.Page.{page}
 use Rattle.page.specs.Header.{cellCount}
 use Rattle.page.specs.Pool.{goodPool, allocated, withFresh}
 use Rattle.page.specs.Key.{rankAt}
 use Rattle.page.specs.declared.pool.State.{State}
 use Rattle.page.specs.declared.pool.Allocated.{Allocated}
-use Rattle.page.proofs.PageLaws.{lent-page, back-page}
-use Rattle.page.proofs.PoolLaws.{pool-is, alloc-page}
 use Rattle.row.specs.Write.{cellSize, cellBytes}
 use Rattle.row.specs.declared.Stamp.{Stamp}
 use Rattle.row.specs.declared.Pointer.{Pointer}
-use Rattle.row.proofs.Writing.{stamp-len, pointer-len, length-cell}
 use Rattle.leaf_edit.specs.Edit.{withCell}
 use Rattle.leaf_divide.specs.Divide.{divided}
 use Rattle.tree_grow.specs.Path.{pageAt, pagesAbove}
 use Rattle.tree_grow.specs.Grow.{grown, settled}
-use Rattle.tree_grow.specs.Safe.{There, AboveSafe}
-use Rattle.tree_grow.proofs.Stepping.{next-is, fresh-long, fresh-here, fresh-other}
+use Rattle.tree_grow.specs.Steps.Safe.{There, AboveSafe}
 use Rattle.tree_room.specs.Room.{planned, leafPlan, roomOf}
 use Rattle.tree_room.specs.Up.{dividedUp}
 use Rattle.tree_room.specs.declared.Planned.{Planned}
-use Rattle.tree_room.proofs.Keeping.{PlannedIs, planned-is, RoomLeft, room-left, room-is, up-asks, up-done}
 use Rattle.tree_insert.specs.Spot.{spotOf}
-use Rattle.tree_insert.specs.Insert.{bytesWith, cutWith, insertPlan, InsertCutStands, splicedAt, insertedAt}
+use Rattle.tree_insert.specs.Insert.{bytesWith, cutWith, insertPlan, splicedAt, insertedAt}
+use Rattle.tree_insert.specs.Steps.Insert.{InsertCutStands}
 use Rattle.tree_insert.specs.declared.Spot.{Spot}
 use Rattle.tree_insert.specs.declared.Spotted.{Spotted}
+use Rattle.store.proofs.PutLaws.{length-spliced}
+use Rattle.store.proofs.SeamLaws.{spliced-before}
+use Rattle.page.proofs.PageLaws.{lent-page, back-page}
+use Rattle.page.proofs.PoolLaws.{pool-is, alloc-page}
+use Rattle.row.proofs.Writing.{stamp-len, pointer-len, length-cell}
+use Rattle.tree_grow.proofs.Stepping.{next-is, fresh-long, fresh-here, fresh-other}
+use Rattle.tree_room.proofs.Keeping.{PlannedIs, planned-is, RoomLeft, room-left, room-is, up-asks, up-done}
 use Rattle.tree_insert.proofs.Spotting.{SpotIs, spot-is}
 use Rattle.tree_insert.proofs.Cutting.{cut-stands}
 
@@ -50,7 +51,7 @@ cell-size stamp pointer n h =
     (omega arith, omega arith)
 
 module _ (s : List ℕ) (st : State) (x : Spot) (plan : Planned) (key creator : ℕ) (stamp : Stamp) (pointer : Pointer) (body : List ℕ)
-    (B : AreBytes s) (good : goodPool s st ≡ true) (short : length body ≤ 4051) (spot : spotOf (st .used) (st .root) key creator s ≡ Spotted.Ok x)
+    (B : AreBytes s) (good : goodPool s st ≡ true) (short : length body ≤ 4051) (spot : spotOf s (st .used) (st .root) key creator ≡ Spotted.Ok x)
     (plans : insertPlan st x (cellSize stamp pointer (length body)) s ≡ planned plan) where
   abbrev m : ℕ
   m = cellSize stamp pointer (length body)

@@ -6,7 +6,7 @@ use lib.Dec.{ltb}
 use Rattle.store.specs.Pick.{pick}
 use Rattle.store.specs.Part.{spliced}
 use Rattle.page.specs.Page.{page, setPage}
-use Rattle.page.specs.Header.{cellCount}
+use Rattle.page.specs.Header.{cellCount, headerSize, leafRoom}
 use Rattle.page.specs.declared.pool.State.{State}
 use Rattle.leaf.specs.Place.{cutLeaf}
 use Rattle.leaf.specs.declared.place.Cut.{Cut}
@@ -20,7 +20,7 @@ use Rattle.tree_room.specs.declared.LeafPlan.{LeafPlan}
 
 -- the bytes of all cells, with a new one of m bytes
 abbrev pub bytesWith : Spot → (m : ℕ) → ℕ
-bytesWith x m = x .end - 12 + m
+bytesWith x m = x .end - headerSize + m
 
 -- where the leaf with that cell would be cut
 abbrev pub cutWith : Spot → (m : ℕ) → List ℕ → Cut
@@ -28,20 +28,7 @@ cutWith x m pg = cutLeaf (bytesWith x m) (x .place .before) (x .place .at) (cell
 
 -- "An overfull leaf (cells over 4084 bytes) is cut"
 unfoldable pub insertPlan : State → Spot → (m : ℕ) → List ℕ → LeafPlan
-insertPlan st x m s = leafPlan st (x .leaf) (ltb 4084 (bytesWith x m)) (cutWith x m (page (x .leaf) s)) s
-
--- a cut of n cells and the new one of m bytes: it goes between two of them, and both sides fit a page
-pub record InsertCutStands (x : Spot) (m n : ℕ) (cut : Cut) : Type 0 where
-  pub low : 12 ≤ x .place .at
-  pub inside : x .place .at ≤ x .end
-  pub within : x .end ≤ 4096
-  pub few : n < 16384
-  pub cells : cut .cells ≤ n
-  pub left : cut .bytes ≤ 4084
-  pub right : x .end + m ≤ 4096 + cut .bytes
-  pub whole : 12 + cut .bytes ≤ x .end + m
-  pub before : cut .cells ≤ x .place .before → 12 + cut .bytes ≤ x .place .at
-  pub after : x .place .before < cut .cells → x .place .at + m ≤ 12 + cut .bytes
+insertPlan st x m s = leafPlan st (x .leaf) (ltb leafRoom (bytesWith x m)) (cutWith x m (page (x .leaf) s)) s
 
 -- the leaf's bytes with the cell's bytes b at its place; they may be more than a page holds
 abbrev pub splicedAt : Spot → (b pg : List ℕ) → List ℕ

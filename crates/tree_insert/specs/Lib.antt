@@ -2,3 +2,4 @@
 pub mod Spot
 pub mod Insert
 pub mod Ready
+pub mod Steps

@@ -9,19 +9,20 @@ use Rattle.store.specs.Pick.{pick}
 use Rattle.store.specs.Part.{zeros}
 use Rattle.page.specs.declared.pool.State.{State}
 use Rattle.row.specs.declared.Fault.{Fault}
-use Rattle.mvcc.specs.Lists.{lookup}
-use Rattle.mvcc.specs.Rules.{plainXmax, plainActive}
+use Rattle.mvcc.specs.Snapshot.{lookup, Statuses, creatorOf, plainSnapshot}
 use Rattle.mvcc.specs.declared.Current.{Current}
 use Rattle.leaf.specs.declared.find.Best.{Best}
 use Rattle.tree.specs.Lookup.{bestInTree}
 use Rattle.tree.specs.declared.ChainBest.{ChainBest}
 use Rattle.tree_insert.specs.Spot.{spotOf}
-use Rattle.tree_room.specs.Room.{noFault, fitting, onLeafPlan, roomOf}
+use Rattle.row.specs.Fault.{noFault}
+use Rattle.tree_room.specs.Room.{fitting, onLeafPlan, roomOf}
 use Rattle.tree_insert.specs.Insert.{bytesWith, insertPlan}
 use Rattle.tree_insert.specs.declared.Spot.{Spot}
 use Rattle.tree_insert.specs.declared.Spotted.{Spotted}
 use Rattle.tree_room.specs.declared.Planned.{Planned}
 use Rattle.tree_insert.specs.declared.ready.Ready.{Ready}
+use Rattle.call_answers.specs.Names.{BadTree, Duplicate}
 
 abbrev pub ready : Spot → Planned → Ready
 ready x plan = record { ok = true; number = 0; fault = noFault; spot = x; plan = plan }
@@ -50,16 +51,11 @@ readyByRoom x plan n = pick (eqb n 0) (ready x plan) (notReady n noFault)
 -- 2, 6, 9, 11, 10: a cell of m bytes at the spot, where a version is seen already or not
 unfoldable pub readyAt : List ℕ → State → (seen : Bool) → Spot → (m : ℕ) → Ready
 readyAt s st seen x m =
-    onLeafPlan (λ plan. pick seen (notReady 6 noFault) (readyByRoom x plan (roomOf (length s / 4096) st (bytesWith x m) plan))) (notReady 2) (insertPlan st x m s)
+    onLeafPlan (λ plan. pick seen (notReady Duplicate noFault) (readyByRoom x plan (roomOf (length s / 4096) st (bytesWith x m) plan))) (notReady BadTree) (insertPlan st x m s)
 
 -- a version that is not asked whether its key is free
 unfoldable pub versionAt : List ℕ → State → (key creator m : ℕ) → Ready
-versionAt s st key creator m = onSpot (λ x. readyAt s st false x m) (notReady 2) (spotOf (st .used) (st .root) key creator s)
-
--- "The new creator .. is that transaction, or 0 if there is none"
-abbrev pub creatorOf : Current → ℕ
-creatorOf (Current.Tx t) = t
-creatorOf Current.Nobody = 0
+versionAt s st key creator m = onSpot (λ x. readyAt s st false x m) (notReady BadTree) (spotOf s (st .used) (st .root) key creator)
 
 abbrev pub isSeen : Best → Bool
 isSeen (Best.At p c) = true
@@ -71,10 +67,10 @@ onChain good ill (ChainBest.Bad f) = ill f
 
 -- "Insert looks for a duplicate with xmax 2^64 - 1, an empty list and the caller's current transaction, if any". Its path and
 -- leaf are read first, then the chain of the search, then the climb.
-unfoldable pub newAt : List ℕ → State → (key : ℕ) → Current → (ids states : List ℕ) → (m : ℕ) → Ready
-newAt s st key cur ids states m =
+unfoldable pub newAt : List ℕ → State → (key : ℕ) → Current → Statuses → (m : ℕ) → Ready
+newAt s st key cur ss m =
     onSpot
     (λ x.
-    onChain (λ b. readyAt s st (isSeen b) x m) (notReady 2) (bestInTree (lookup ids states) plainActive plainXmax cur (st .used) (st .root) key s))
-    (notReady 2)
-    (spotOf (st .used) (st .root) key (creatorOf cur) s)
+    onChain (λ b. readyAt s st (isSeen b) x m) (notReady BadTree) (bestInTree s (st .used) (st .root) key (plainSnapshot cur) (lookup ss)))
+    (notReady BadTree)
+    (spotOf s (st .used) (st .root) key (creatorOf cur))

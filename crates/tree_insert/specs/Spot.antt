@@ -14,6 +14,6 @@ abbrev pub spotIn : (p : ℕ) → LeafPlace → Spotted
 spotIn p (LeafPlace.Ok here e) = Spotted.Ok (record { leaf = p; place = here; end = e })
 spotIn p (LeafPlace.Bad f) = Spotted.Bad f
 
-unfoldable pub spotOf : (used root key creator : ℕ) → List ℕ → Spotted
-spotOf used root key creator s =
-    onLeaf (λ p. spotIn p (placeLeaf p key creator (page p s))) (λ f. Spotted.Bad f) (descendOf 3 (Route.Insert key) used root s)
+unfoldable pub spotOf : List ℕ → (used root key creator : ℕ) → Spotted
+spotOf s used root key creator =
+    onLeaf (λ p. spotIn p (placeLeaf (page p s) p key creator)) (λ f. Spotted.Bad f) (descendOf 3 (Route.Insert key) used root s)

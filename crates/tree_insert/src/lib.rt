@@ -16,7 +16,8 @@ ghost use Rattle.tree_grow.specs.Grow.{grown};
 ghost use Rattle.tree_insert.specs.Spot.{spotOf};
 ghost use Rattle.tree_room.specs.Room.{planned, roomOf};
 ghost use Rattle.tree_room.specs.Up.{dividedUp};
-ghost use Rattle.tree_insert.specs.Insert.{bytesWith, cutWith, insertPlan, splicedAt, InsertCutStands, insertedAt};
+ghost use Rattle.tree_insert.specs.Insert.{bytesWith, cutWith, insertPlan, splicedAt, insertedAt};
+ghost use Rattle.tree_insert.specs.Steps.Insert.{InsertCutStands};
 ghost use Rattle.tree_insert.specs.declared.Spotted.{Spotted};
 use leaf::place::Cut;
 use leaf::place::LeafPlace;
@@ -45,7 +46,7 @@ pub enum Spotted {
 
 pub fn find_spot(pool: &[u8], used: u32, root: u32, key: u32, creator: u64) -> Spotted
     requires { ⌜ used * 4096 ≤ length (now pool) ⌝ }
-    ensures { λ r. ⌜ r ≡ spotOf used root key creator (now (pool .entry)) ⌝ }
+    ensures { λ r. ⌜ r ≡ spotOf (now (pool .entry)) used root key creator ⌝ }
 {
     match tree::descend(pool, used, root, Route::Insert(key)) {
         Descent::Bad(f) => Spotted::Bad(f),
@@ -69,15 +70,22 @@ fn cut_at(pool: &[u8], x: Spot, m: usize) -> Cut
     let pg = page::pool::page_of(pool, x.leaf);
     let here = x.place;
     let after = page::get_cell_count(pg) as usize - here.before;
-    leaf::place::cut_leaf(pg, x.end - 12 + m, here.before, here.at, after, m)
+    leaf::place::cut_leaf(
+        pg,
+        x.end - page::HEADER_SIZE + m,
+        here.before,
+        here.at,
+        after,
+        m,
+    )
 }
 
 // What putting a cell of m bytes there would take.
 pub fn plan_insert(pool: &[u8], st: State, x: Spot, m: usize, key: u32, creator: u64) -> LeafPlan
-    requires { ⌜ (st .used * 4096 ≤ length (now pool)) × (m ≤ 4084) × (spotOf (st .used) (st .root) key creator (now pool) ≡ Spotted.Ok x) ⌝ }
+    requires { ⌜ (st .used * 4096 ≤ length (now pool)) × (m ≤ 4084) × (spotOf (now pool) (st .used) (st .root) key creator ≡ Spotted.Ok x) ⌝ }
     ensures { λ r. ⌜ r ≡ insertPlan st x m (now (pool .entry)) ⌝ }
 {
-    let over = 4084 < x.end - 12 + m;
+    let over = page::LEAF_ROOM < x.end - page::HEADER_SIZE + m;
     if over {
         let cut = cut_at(pool, x, m);
         return tree_room::plan_leaf(pool, st, x.leaf, true, cut);
@@ -152,7 +160,7 @@ fn store_divided(
     body: &[u8],
 ) -> State
     requires { ⌜ (goodPool (now pool) st ≡ true) × (length (now body) ≤ 4051) × (n ≡ cellCount (page (x .leaf) (now pool))) × (plan .over ≡ true) ⌝ }
-    requires { ⌜ spotOf (st .used) (st .root) key creator (now pool) ≡ Spotted.Ok x ⌝ }
+    requires { ⌜ spotOf (now pool) (st .used) (st .root) key creator ≡ Spotted.Ok x ⌝ }
     requires { ⌜ insertPlan st x (cellSize stamp pointer (length (now body))) (now pool) ≡ planned plan ⌝ }
     requires { ⌜ roomOf (length (now pool) / 4096) st (bytesWith x (cellSize stamp pointer (length (now body)))) plan ≡ 0 ⌝ }
     ensures { λ r. ⌜ grown (now (pool .exit)) r ≡ dividedUp plan (x .leaf) (n + 1) (splicedAt x (cellBytes key creator stamp pointer (now (body .entry))) (page (x .leaf) (now (pool .entry)))) (grown (now (pool .entry)) st) ⌝ }
@@ -179,7 +187,7 @@ pub fn store_insert(
     body: &[u8],
 ) -> State
     requires { ⌜ (goodPool (now pool) st ≡ true) × (length (now body) ≤ 4051) ⌝ }
-    requires { ⌜ spotOf (st .used) (st .root) key creator (now pool) ≡ Spotted.Ok x ⌝ }
+    requires { ⌜ spotOf (now pool) (st .used) (st .root) key creator ≡ Spotted.Ok x ⌝ }
     requires { ⌜ insertPlan st x (cellSize stamp pointer (length (now body))) (now pool) ≡ planned plan ⌝ }
     requires { ⌜ roomOf (length (now pool) / 4096) st (bytesWith x (cellSize stamp pointer (length (now body)))) plan ≡ 0 ⌝ }
     ensures { λ r. ⌜ grown (now (pool .exit)) r ≡ insertedAt x plan (cellBytes key creator stamp pointer (now (body .entry))) (grown (now (pool .entry)) st) ⌝ }

@@ -3,18 +3,19 @@ ghost use mathlib.Core.Path.{_≡_};
 ghost use mathlib.Core.Bool.{true};
 ghost use Prim.Native.Nat.{_≤_};
 ghost use Rattle.page.specs.Pool.{goodPool};
-ghost use Rattle.mvcc.specs.Lists.{lookup, Judged as StatusesJudged};
-ghost use Rattle.mvcc.specs.Rules.{plainXmax, plainActive};
+ghost use Rattle.mvcc.specs.Snapshot.{lookup, creatorOf, statuses, plainSnapshot};
+ghost use Rattle.mvcc.specs.Steps.Snapshot.{StatusesJudged};
 ghost use Rattle.tree.specs.Lookup.{bestInTree};
 ghost use Rattle.tree_insert.specs.Spot.{spotOf};
-ghost use Rattle.tree_room.specs.Room.{noFault};
-ghost use Rattle.tree_insert.specs.Ready.{notReady, readyByRoom, readyAt, versionAt, creatorOf, isSeen, onChain, newAt};
+ghost use Rattle.row.specs.Fault.{noFault};
+ghost use Rattle.tree_insert.specs.Ready.{notReady, readyByRoom, readyAt, versionAt, isSeen, onChain, newAt};
 ghost use Rattle.tree_insert.specs.declared.Spotted.{Spotted};
 use crate::Spot;
 use crate::Spotted;
 use leaf::find::Best;
 use leaf::place::Place;
 use mvcc::Current;
+use mvcc::creator_of;
 use page::PAGE_SIZE;
 use page::pool::State;
 use row::Fault;
@@ -54,14 +55,7 @@ fn refused_by(number: u8, fault: Fault) -> Ready
 pub fn refused(number: u8) -> Ready
     ensures { λ r. ⌜ r ≡ notReady number noFault ⌝ }
 {
-    refused_by(
-        number,
-        Fault {
-            kind: 0,
-            page: 0,
-            offset: 0,
-        },
-    )
+    refused_by(number, row::NO_FAULT)
 }
 
 fn by_room(x: Spot, plan: Planned, n: u8) -> Ready
@@ -71,11 +65,7 @@ fn by_room(x: Spot, plan: Planned, n: u8) -> Ready
         return Ready {
             ok: true,
             number: 0,
-            fault: Fault {
-                kind: 0,
-                page: 0,
-                offset: 0,
-            },
+            fault: row::NO_FAULT,
             spot: x,
             plan,
         };
@@ -85,7 +75,7 @@ fn by_room(x: Spot, plan: Planned, n: u8) -> Ready
 
 // A cell of m bytes at the spot of that key and creator, where a version is seen already or not.
 fn ready_at(pool: &[u8], st: State, key: u32, creator: u64, x: Spot, m: usize, seen: bool) -> Ready
-    requires { ⌜ (goodPool (now pool) st ≡ true) × (m ≤ 4084) × (spotOf (st .used) (st .root) key creator (now pool) ≡ Spotted.Ok x) ⌝ }
+    requires { ⌜ (goodPool (now pool) st ≡ true) × (m ≤ 4084) × (spotOf (now pool) (st .used) (st .root) key creator ≡ Spotted.Ok x) ⌝ }
     ensures { λ r. ⌜ r ≡ readyAt (now (pool .entry)) st seen x m ⌝ }
 {
     let told = crate::plan_insert(pool, st, x, m, key, creator);
@@ -97,7 +87,11 @@ fn ready_at(pool: &[u8], st: State, key: u32, creator: u64, x: Spot, m: usize, s
         return refused(6);
     }
     let pages = pool.len() / PAGE_SIZE;
-    by_room(x, plan, tree_room::refusal(pages, st, x.end - 12 + m, plan))
+    by_room(
+        x,
+        plan,
+        tree_room::refusal(pages, st, x.end - page::HEADER_SIZE + m, plan),
+    )
 }
 
 // A version that is not asked whether its key is free.
@@ -120,15 +114,6 @@ fn is_seen(best: Best) -> bool
     }
 }
 
-pub fn creator_of(cur: Current) -> u64
-    ensures { λ r. ⌜ r ≡ creatorOf cur ⌝ }
-{
-    match cur {
-        Current::Tx(t) => t,
-        Current::Nobody => 0,
-    }
-}
-
 // The spot is found; then the key is searched for along the chain, and then comes the climb.
 fn new_at_spot(
     pool: &[u8],
@@ -140,19 +125,19 @@ fn new_at_spot(
     x: Spot,
     m: usize,
 ) -> Ready
-    requires { ⌜ (goodPool (now pool) st ≡ true) × StatusesJudged (now ids) (now states) × (m ≤ 4084) × (spotOf (st .used) (st .root) key (creatorOf cur) (now pool) ≡ Spotted.Ok x) ⌝ }
-    ensures { λ r. ⌜ r ≡ onChain (λ b. readyAt (now (pool .entry)) st (isSeen b) x m) (notReady 2) (bestInTree (lookup (now (ids .entry)) (now (states .entry))) plainActive plainXmax cur (st .used) (st .root) key (now (pool .entry))) ⌝ }
+    requires { ⌜ (goodPool (now pool) st ≡ true) × StatusesJudged (statuses (now ids) (now states)) × (m ≤ 4084) × (spotOf (now pool) (st .used) (st .root) key (creatorOf cur) ≡ Spotted.Ok x) ⌝ }
+    ensures { λ r. ⌜ r ≡ onChain (λ b. readyAt (now (pool .entry)) st (isSeen b) x m) (notReady 2) (bestInTree (now (pool .entry)) (st .used) (st .root) key (plainSnapshot cur) (lookup (statuses (now (ids .entry)) (now (states .entry))))) ⌝ }
 {
     match tree::lookup::best_in_tree(
         pool,
-        ids,
-        states,
-        &ids[0..0],
-        mvcc::PLAIN_XMAX,
-        cur,
         st.used,
         st.root,
         key,
+        mvcc::PLAIN_XMAX,
+        &ids[0..0],
+        cur,
+        ids,
+        states,
     ) {
         ChainBest::Bad(f) => refused_by(2, f),
         ChainBest::Ok(best) => ready_at(pool, st, key, creator_of(cur), x, m, is_seen(best)),
@@ -169,8 +154,8 @@ pub fn new_at(
     states: &[u8],
     m: usize,
 ) -> Ready
-    requires { ⌜ (goodPool (now pool) st ≡ true) × StatusesJudged (now ids) (now states) × (m ≤ 4084) ⌝ }
-    ensures { λ r. ⌜ r ≡ newAt (now (pool .entry)) st key cur (now (ids .entry)) (now (states .entry)) m ⌝ }
+    requires { ⌜ (goodPool (now pool) st ≡ true) × StatusesJudged (statuses (now ids) (now states)) × (m ≤ 4084) ⌝ }
+    ensures { λ r. ⌜ r ≡ newAt (now (pool .entry)) st key cur (statuses (now (ids .entry)) (now (states .entry))) m ⌝ }
 {
     match crate::find_spot(pool, st.used, st.root, key, creator_of(cur)) {
         Spotted::Bad(f) => refused_by(2, f),

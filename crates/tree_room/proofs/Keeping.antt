@@ -10,17 +10,12 @@ use lib.Dec.{leb, eqb}
 use lib.ListN.{length, length-append}
 use Rattle.store.specs.Pick.{pick}
 use Rattle.store.specs.Part.{part, pad}
-use Rattle.store.proofs.LeLaws.{length-putAt, leAt-putAt-below}
-use Rattle.store.proofs.PartLaws.{length-part, leAt-same, part-part}
-use Rattle.store.proofs.SeamLaws.{length-pad, part-pad}
 use Rattle.page.specs.Page.{page, setPage}
 use Rattle.page.specs.Header.{nodeType, cellCount, nextLeaf, withNodeType, withCount}
 use Rattle.page.specs.Pool.{goodPool, nextPage, allocated, withFresh}
 use Rattle.page.specs.Key.{rankAt}
 use Rattle.page.specs.declared.pool.State.{State}
 use Rattle.page.specs.declared.pool.Allocated.{Allocated}
-use Rattle.page.proofs.PageLaws.{length-page, length-setPage, page-setPage-other}
-use Rattle.page.proofs.PoolLaws.{pool-is}
 use Rattle.row.specs.declared.Fault.{Fault}
 use Rattle.leaf.specs.Place.{largerSide, cutFits}
 use Rattle.leaf.specs.declared.place.Cut.{Cut}
@@ -28,21 +23,26 @@ use Rattle.tree.specs.Climb.{climbOf, climbed}
 use Rattle.tree.specs.declared.climb.Path.{Path}
 use Rattle.tree.specs.declared.climb.Climbed.{Climbed}
 use Rattle.leaf_divide.specs.Divide.{leftLeaf, rightLeaf, divided}
-use Rattle.leaf_divide.proofs.Dividing.{both-left}
 use Rattle.tree_grow.specs.Path.{pageAt, pagesAbove}
 use Rattle.tree_grow.specs.Grow.{Grown, grown, settled}
-use Rattle.tree_grow.specs.Safe.{There, AboveSafe}
+use Rattle.tree_grow.specs.Steps.Safe.{There, AboveSafe}
 use Rattle.tree_grow.specs.Plan.{fullPages, divisionOf, pagesAsked, relinks, inUse, onLinks, planOf}
-use Rattle.tree_grow.specs.PlanFacts.{LeafDivided}
+use Rattle.tree_grow.specs.Steps.PlanFacts.{LeafDivided}
 use Rattle.tree_grow.specs.declared.plan.Division.{Division}
 use Rattle.tree_grow.specs.declared.plan.Links.{Links}
 use Rattle.tree_grow.specs.declared.plan.Plan.{Plan}
-use Rattle.tree_grow.proofs.Stepping.{next-is, fresh-long, fresh-other}
-use Rattle.tree_grow.proofs.Framing.{plan-is-safe}
-use Rattle.tree_room.specs.Room.{onPlan, fitting, dividing, planned, unplanned, leafPlan, tooDeep, roomOf}
+use Rattle.tree_room.specs.Room.{onPlan, fitting, dividing, planned, unplanned, leafPlan, growsTooDeep, roomOf}
 use Rattle.tree_room.specs.Up.{dividedUp}
 use Rattle.tree_room.specs.declared.Planned.{Planned}
 use Rattle.tree_room.specs.declared.LeafPlan.{LeafPlan}
+use Rattle.store.proofs.LeLaws.{length-putAt, leAt-putAt-below}
+use Rattle.store.proofs.PartLaws.{length-part, leAt-same, part-part}
+use Rattle.store.proofs.SeamLaws.{length-pad, part-pad}
+use Rattle.page.proofs.PageLaws.{length-page, length-setPage, page-setPage-other}
+use Rattle.page.proofs.PoolLaws.{pool-is}
+use Rattle.leaf_divide.proofs.Dividing.{both-left}
+use Rattle.tree_grow.proofs.Stepping.{next-is, fresh-long, fresh-other}
+use Rattle.tree_grow.proofs.Framing.{plan-is-safe}
 use Rattle.tree_room.proofs.Rooming.{Climbs, climb-climbs}
 
 -- ---- the leaf has divided
@@ -236,7 +236,7 @@ cut-sides t cut e =
 pub room-is : (pages : ℕ) (st : State) (t : ℕ) (x : Planned) → roomOf pages st t x ≡ 0 → x .over ≡ true → RoomIs pages st t x
 unfolding roomOf
 room-is pages st t x e o =
-    by-tests (cutFits t (x .cut)) refl (tooDeep x) (leb (st .used + 1 + pagesAsked (st .root) (x .above)) pages) refl (rw o at e)
+    by-tests (cutFits t (x .cut)) refl (growsTooDeep x) (leb (st .used + 1 + pagesAsked (st .root) (x .above)) pages) refl (rw o at e)
   where
     by-tests : (a : Bool) → cutFits t (x .cut) ≡ a → (b c : Bool) → leb (st .used + 1 + pagesAsked (st .root) (x .above)) pages ≡ c
         → _≡_ {A = ℕ} (pick a (pick b 11 (pick c 0 10)) 9) 0 → RoomIs pages st t x

@@ -10,7 +10,6 @@ use lib.Dec.{eqb}
 use lib.ListN.{length}
 use Rattle.store.specs.Pick.{pick}
 use Rattle.store.specs.Part.{pad, zeros}
-use Rattle.store.proofs.SeamLaws.{part-left, part-right, part-whole}
 use Rattle.page.specs.declared.pool.State.{State}
 use Rattle.row.specs.declared.Fault.{Fault}
 use Rattle.leaf.specs.Place.{cutFits}
@@ -18,16 +17,17 @@ use Rattle.leaf.specs.declared.place.Cut.{Cut}
 use Rattle.tree.specs.Climb.{up, climbOf, pathOf, climbed}
 use Rattle.tree.specs.declared.climb.Path.{Path}
 use Rattle.tree.specs.declared.climb.Climbed.{Climbed}
-use Rattle.tree.proofs.Climbing.{reached, climb-risen}
 use Rattle.tree_grow.specs.Path.{pageAt, pagesAbove}
-use Rattle.tree_grow.specs.Safe.{Stands}
+use Rattle.tree_grow.specs.Steps.Safe.{Stands}
 use Rattle.tree_grow.specs.Plan.{pagesAsked, planOf}
 use Rattle.tree_grow.specs.declared.plan.Division.{Division}
 use Rattle.tree_grow.specs.declared.plan.Plan.{Plan}
-use Rattle.tree_grow.proofs.Framing.{climb-stands}
-use Rattle.tree_room.specs.Room.{fitting, dividing, planned, unplanned, leafPlan, tooDeep, roomOf}
+use Rattle.tree_room.specs.Room.{fitting, dividing, planned, unplanned, leafPlan, growsTooDeep, roomOf}
 use Rattle.tree_room.specs.declared.Planned.{Planned}
 use Rattle.tree_room.specs.declared.LeafPlan.{LeafPlan}
+use Rattle.store.proofs.SeamLaws.{part-left, part-right, part-whole}
+use Rattle.tree.proofs.Climbing.{reached, climb-risen}
+use Rattle.tree_grow.proofs.Framing.{climb-stands}
 
 -- ---- the climb
 
@@ -103,10 +103,10 @@ asked-few root d h e = rw e (by-tests (d .grows) (eqb root 0))
     by-tests false b = omega arith
 
 -- the root does not grow, or is not that deep
-pub deep-stays : (x : Planned) → x .above .grows ≡ false → tooDeep x ≡ false
+pub deep-stays : (x : Planned) → x .above .grows ≡ false → growsTooDeep x ≡ false
 deep-stays x h = rw h
 
-pub deep-not : (x : Planned) → x .above .grows ≡ true → (x .path .len ≡ 4 → ⊥) → tooDeep x ≡ false
+pub deep-not : (x : Planned) → x .above .grows ≡ true → (x .path .len ≡ 4 → ⊥) → growsTooDeep x ≡ false
 deep-not x h ne = rw (h, ne-eqb (x .path .len) 4 ne)
 
 module _ (pages : ℕ) (st : State) (t : ℕ) (x : Planned) where
@@ -124,7 +124,7 @@ module _ (pages : ℕ) (st : State) (t : ℕ) (x : Planned) where
       unfolding roomOf
       room-deep h e = rw (not-false (x .over) over, ← fits, not-false b cuts, h, eq-eqb (x .path .len) 4 e)
 
-      module _ (shallow : tooDeep x ≡ false) {n : ℕ} (asked : n ≡ pagesAsked (st .root) (x .above)) where
+      module _ (shallow : growsTooDeep x ≡ false) {n : ℕ} (asked : n ≡ pagesAsked (st .root) (x .above)) where
         pub room-none : pages < st .used + 1 + n → 10 ≡ roomOf pages st t x
         unfolding roomOf
         room-none h = rw (not-false (x .over) over, ← fits, not-false b cuts, shallow, ← asked, lt-leb (st .used + 1 + n) pages h)

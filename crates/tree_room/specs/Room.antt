@@ -19,6 +19,8 @@ use Rattle.tree_grow.specs.declared.plan.Division.{Division}
 use Rattle.tree_grow.specs.declared.plan.Plan.{Plan}
 use Rattle.tree_room.specs.declared.Planned.{Planned}
 use Rattle.tree_room.specs.declared.LeafPlan.{LeafPlan}
+use Rattle.row.specs.Fault.{noFault}
+use Rattle.call_answers.specs.Names.{NoPages, TooDeep, Undividable, unless}
 
 abbrev pub onClimbed : {A : Type 0} → (Path → A) → (Fault → A) → Climbed → A
 onClimbed good ill c = pick (c .ok) (good (c .path)) (ill (c .fault))
@@ -34,9 +36,6 @@ fitting path = record { path = path; over = false; cut = noCut; above = record {
 -- it divides at that cut
 abbrev pub dividing : Path → Cut → Division → Planned
 dividing path cut d = record { path = path; over = true; cut = cut; above = d }
-
-abbrev pub noFault : Fault
-noFault = record { kind = 0; page = 0; offset = 0 }
 
 -- a plan, or the fault that leaves none
 abbrev pub planned : Planned → LeafPlan
@@ -57,14 +56,17 @@ leafPlan st p over cut s =
     (climbed (climbOf 3 (st .used) (st .root) p s))
 
 -- "the root must grow from 4 levels"
-abbrev pub tooDeep : Planned → Bool
-tooDeep x = x .above .grows && eqb (x .path .len) 4
+abbrev pub growsTooDeep : Planned → Bool
+growsTooDeep x = x .above .grows && eqb (x .path .len) 4
 
 -- of a pool of so many pages, for a leaf of t bytes; 0 is none
 unfoldable pub roomOf : (pages : ℕ) → State → (t : ℕ) → Planned → ℕ
 roomOf pages st t x =
     pick (x .over)
-    (pick (cutFits t (x .cut)) (pick (tooDeep x) 11 (pick (leb (st .used + 1 + pagesAsked (st .root) (x .above)) pages) 0 10)) 9)
+    (unless (cutFits t (x .cut)) Undividable
+    (pick (growsTooDeep x) TooDeep
+    (unless (leb (st .used + 1 + pagesAsked (st .root) (x .above)) pages) NoPages
+    0)))
     0
 
 abbrev pub onLeafPlan : {A : Type 0} → (Planned → A) → (Fault → A) → LeafPlan → A

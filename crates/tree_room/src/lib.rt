@@ -45,11 +45,7 @@ fn planned_as(plan: Planned) -> LeafPlan
 {
     LeafPlan {
         ok: true,
-        fault: Fault {
-            kind: 0,
-            page: 0,
-            offset: 0,
-        },
+        fault: row::NO_FAULT,
         plan,
     }
 }

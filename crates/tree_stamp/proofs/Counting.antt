@@ -7,16 +7,17 @@ use borrow.Author.Tests.{lt-ltb, le-ltb}
 use lib.Dec.{ltb}
 use Rattle.store.specs.Pick.{pick}
 use Rattle.page.specs.Header.{cellCount}
-use Rattle.row.specs.Read.{cellAt, endAt}
+use Rattle.row.specs.Read.{cellAt}
+use Rattle.row.specs.Steps.Read.{endAt}
 use Rattle.row.specs.declared.Stamp.{Stamp}
 use Rattle.row.specs.declared.Cell.{Cell}
 use Rattle.row.specs.declared.read.CellRead.{CellRead}
 use Rattle.leaf.specs.Cells.{onCell, cellsOf, cells, foldCells}
-use Rattle.leaf.proofs.Walking.{end-none, end-some}
 use Rattle.tree_stamp.specs.Target.{besideStep, besideOf, targetOf}
 use Rattle.tree_stamp.specs.Stamp.{longer}
 use Rattle.tree_stamp.specs.declared.Beside.{Beside}
 use Rattle.tree_stamp.specs.declared.Target.{Target}
+use Rattle.leaf.proofs.Walking.{end-none, end-some}
 
 pub count-start : (pg : List ℕ) (at : ℕ) {n : ℕ} → n ≡ cellCount pg → foldCells (besideStep at) (record { before = 0; end = 12 }) (cellsOf n 12 pg) ≡ besideOf at (cells pg)
 unfolding besideOf

@@ -10,20 +10,21 @@ use borrow.Author.Tests.{leb-true}
 use lib.Dec.{ltb, leb}
 use lib.ListN.{length, take, length-append, length-map}
 use Rattle.store.specs.Pick.{pick}
-use Rattle.store.proofs.PartLaws.{le-or-lt}
 use Rattle.page.specs.Header.{cellCount}
 use Rattle.row.specs.Write.{stampLen}
 use Rattle.row.specs.declared.Stamp.{Stamp}
 use Rattle.row.specs.declared.Cell.{Cell}
 use Rattle.leaf.specs.Cells.{cellsOf}
 use Rattle.leaf.specs.Place.{largerSide, betterCut, noCut, cutStep, cutAfter, cutOf, sizesOf, cutLeaf, cutFits}
-use Rattle.leaf.specs.CutFacts.{sum, Between, Chosen}
+use Rattle.leaf.specs.CutFacts.{sum, Between, BestCut}
 use Rattle.leaf.specs.declared.place.Cut.{Cut}
+use Rattle.tree_stamp.specs.Stamp.{longer, bytesStamped, cutStamped}
+use Rattle.tree_stamp.specs.Steps.Stamp.{StampCutStands}
+use Rattle.tree_stamp.specs.declared.Target.{Target}
+use Rattle.store.proofs.PartLaws.{le-or-lt}
 use Rattle.leaf.proofs.CutFacts.{cut-is-best}
 use Rattle.leaf.proofs.Chain.{chain-back}
 use Rattle.tree.proofs.Ways.{and-both}
-use Rattle.tree_stamp.specs.Stamp.{longer, bytesStamped, cutStamped, StampCutStands}
-use Rattle.tree_stamp.specs.declared.Target.{Target}
 use Rattle.tree_stamp.proofs.Meeting.{Stands}
 use Rattle.tree_stamp.proofs.Sums.{sum-append, sum-take, sum-front, sum-past, between-append, sizes-sum, sizes-between}
 
@@ -116,8 +117,8 @@ module _ (t : Target) (pg : List ℕ) (short : length pg ≤ 4096) (is : Stands 
         between-append 1 4096 xs (m ∷ ys) (sizes-between pg short 12 (is .first) (is .chain))
         (omega (arith, is .size), omega (arith, is .low, is .inside, is .within, live .1), sizes-between pg short (t .cell .next) (is .rest) (is .chain-on))
 
-    cut-chosen : Chosen all cut
-    cut-chosen = subst (Chosen all) (sym cut-is) (cut-is-best all 4096 two-cells all-between)
+    cut-chosen : BestCut all cut
+    cut-chosen = subst (BestCut all) (sym cut-is) (cut-is-best all 4096 two-cells all-between)
 
     cut-bytes : cut .bytes ≡ sum (take (cut .cells) all)
     cut-bytes = ap (λ (x : Cut). x .bytes) (cut-chosen .place)

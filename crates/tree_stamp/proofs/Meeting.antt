@@ -11,36 +11,37 @@ use lib.ListN.{length, length-append}
 use Rattle.store.specs.Pick.{pick}
 use Rattle.page.specs.Page.{page}
 use Rattle.page.specs.Header.{nodeType, nextLeaf, cellCount}
-use Rattle.page.proofs.PageLaws.{page-short}
 use Rattle.row.specs.Read.{cellAt}
 use Rattle.row.specs.declared.Cell.{Cell}
 use Rattle.row.specs.declared.read.CellRead.{CellRead}
-use Rattle.row.proofs.Exact.{CellPlaced, cell-placed}
-use Rattle.inner.specs.Inner.{structural}
+use Rattle.row.specs.Fault.{structural}
 use Rattle.mvcc.specs.Rules.{visible}
-use Rattle.mvcc.specs.declared.Current.{Current}
 use Rattle.leaf.specs.Cells.{cells, foldCells, judgeCells, judgeLeaf, onJudged, hasLarger}
 use Rattle.leaf.specs.Find.{later, newest, findLeaf}
 use Rattle.leaf.specs.declared.Judged.{Judged}
 use Rattle.leaf.specs.declared.find.Best.{Best}
 use Rattle.leaf.specs.declared.find.LeafBest.{LeafBest}
-use Rattle.leaf.proofs.Rowing.{endOf}
-use Rattle.leaf.proofs.Chain.{Chain, chain-cells, chain-right, chain-inside, end-append, judged-leaf}
 use Rattle.tree.specs.Descend.{descendOf, onLeaf}
 use Rattle.tree.specs.Chain.{Told, ok, ill, onSeen, along, seenBest, toldBest, lookBest, bestAlong}
 use Rattle.tree.specs.Lookup.{bestInTree}
 use Rattle.tree.specs.declared.Route.{Route}
 use Rattle.tree.specs.declared.Descent.{Descent}
 use Rattle.tree.specs.declared.ChainBest.{ChainBest}
-use Rattle.tree_stamp.specs.Target.{besideStep, besideOf, targetOf, Met}
+use Rattle.tree_stamp.specs.Target.{besideStep, besideOf, targetOf}
+use Rattle.tree_stamp.specs.Steps.Target.{CellMet}
 use Rattle.tree_stamp.specs.declared.Beside.{Beside}
 use Rattle.tree_stamp.specs.declared.Target.{Target}
+use Rattle.mvcc.specs.Snapshot.{Snapshot}
+use Rattle.page.proofs.PageLaws.{page-short}
+use Rattle.row.proofs.Exact.{CellPlaced, cell-placed}
+use Rattle.leaf.proofs.Rowing.{endOf}
+use Rattle.leaf.proofs.Chain.{Chain, chain-cells, chain-right, chain-inside, end-append, judged-leaf}
 
 -- ---- what a lookup finds
 
 abbrev BestMet : List ℕ → ℕ → Best → Type 0
 BestMet s used Best.Nothing = Unit
-BestMet s used (Best.At p c) = Met used p c s
+BestMet s used (Best.At p c) = CellMet used p c s
 
 either : {A : Type 0} (P : A → Type 0) (b : Bool) {x y : A} → P x → P y → P (pick b x y)
 either P true p q = p
@@ -52,36 +53,36 @@ module _ (s : List ℕ) (used p : ℕ) (low : p < used) {e : ℕ} (judged : judg
   later-met (Best.At q o) xs c ys w b =
       either (BestMet s used) (ltb (c .version .creator) (o .version .creator)) b (record { in-use = low; end = e; judged = judged; before = xs; after = ys; among = w })
 
-  module _ (st : ℕ → ℕ) (active : List ℕ) (xmax : ℕ) (cur : Current) (key : ℕ) where
+  module _ (sn : Snapshot) (st : ℕ → ℕ) (key : ℕ) where
     newest-met : (best : Best) (xs : List Cell) (c : Cell) (ys : List Cell) → cells (page p s) ≡ xs ++ (c ∷ ys) → BestMet s used best
-        → BestMet s used (newest st active xmax cur p key best c)
+        → BestMet s used (newest p key sn st best c)
     unfolding newest
     newest-met best xs c ys w b =
-        either (BestMet s used) (eqb (c .key) key && visible st active xmax cur (c .version .creator) (c .version .stamp)) (later-met best xs c ys w b) b
+        either (BestMet s used) (eqb (c .key) key && visible sn st (c .version .creator) (c .version .stamp)) (later-met best xs c ys w b) b
 
-    fold-met : (xs ys : List Cell) (best : Best) → cells (page p s) ≡ xs ++ ys → BestMet s used best → BestMet s used (foldCells (newest st active xmax cur p key) best ys)
+    fold-met : (xs ys : List Cell) (best : Best) → cells (page p s) ≡ xs ++ ys → BestMet s used best → BestMet s used (foldCells (newest p key sn st) best ys)
     unfolding foldCells
     fold-met xs [] best w b = b
     fold-met xs (c ∷ ys) best w b =
-        fold-met (xs ++ (c ∷ [])) ys (newest st active xmax cur p key best c) (w ∙ simp append-assoc) (newest-met best xs c ys w b)
+        fold-met (xs ++ (c ∷ [])) ys (newest p key sn st best c) (w ∙ simp append-assoc) (newest-met best xs c ys w b)
 
-module _ (st : ℕ → ℕ) (active : List ℕ) (xmax : ℕ) (cur : Current) (used key : ℕ) (s : List ℕ) where
-  find-met : (p : ℕ) → p < used → (best : Best) {b : Best} {l : Bool} → findLeaf st active xmax cur p key best (page p s) ≡ LeafBest.Ok b l → BestMet s used best → BestMet s used b
+module _ (sn : Snapshot) (st : ℕ → ℕ) (used key : ℕ) (s : List ℕ) where
+  find-met : (p : ℕ) → p < used → (best : Best) {b : Best} {l : Bool} → findLeaf (page p s) p key sn st best ≡ LeafBest.Ok b l → BestMet s used best → BestMet s used b
   unfolding findLeaf
   find-met p low best {b} {l} e i = by-judged (judgeLeaf p (page p s)) refl e
     where
       all : Best
-      all = foldCells (newest st active xmax cur p key) best (cells (page p s))
+      all = foldCells (newest p key sn st) best (cells (page p s))
 
       by-judged : (j : Judged) → judgeLeaf p (page p s) ≡ j → onJudged (λ e. LeafBest.Ok all (hasLarger key (cells (page p s)))) (λ f. LeafBest.Bad f) j ≡ LeafBest.Ok b l
           → BestMet s used b
       by-judged (Judged.Ok n) j q =
           let u : all ≡ b = cc in
-          subst (BestMet s used) u (fold-met s used p low j st active xmax cur key [] (cells (page p s)) best refl i)
+          subst (BestMet s used) u (fold-met s used p low j sn st key [] (cells (page p s)) best refl i)
       by-judged (Judged.Bad f) j q = absurd (let z : _≡_ {A = ℕ} 0 1 = cc in omega arith)
 
   abbrev go : ℕ → Best → ℕ → Told Best
-  go m a p = along (lookBest st active xmax cur key) used m a p s
+  go m a p = along (lookBest key sn st) used m a p s
 
   along-met : (m : ℕ) (a : Best) (p : ℕ) {b : Best} → go m a p ≡ ok b → BestMet s used a → BestMet s used b
   unfolding along
@@ -96,31 +97,31 @@ module _ (st : ℕ → ℕ) (active : List ℕ) (xmax : ℕ) (cur : Current) (us
       by-next ih true d j q = let u : d ≡ b = cc in subst (BestMet s used) u j
       by-next ih false d j q = ih d next q j
 
-      by-leaf : ((d : Best) (n : ℕ) → go m d n ≡ ok b → BestMet s used d → BestMet s used b) → p < used → (r : LeafBest) → findLeaf st active xmax cur p key a (page p s) ≡ r
+      by-leaf : ((d : Best) (n : ℕ) → go m d n ≡ ok b → BestMet s used d → BestMet s used b) → p < used → (r : LeafBest) → findLeaf (page p s) p key sn st a ≡ r
           → onSeen (λ d. ok d) (λ d. pick (eqb next 0) (ok d) (go m d next)) (λ f. ill f) (seenBest r) ≡ ok b → BestMet s used b
       by-leaf ih h (LeafBest.Ok d true) f q = let u : d ≡ b = cc in subst (BestMet s used) u (find-met p h a f i)
       by-leaf ih h (LeafBest.Ok d false) f q = by-next ih (eqb next 0) d (find-met p h a f i) q
       by-leaf ih h (LeafBest.Bad g) f q = absurd (let z : _≡_ {A = ℕ} 0 1 = cc in omega arith)
 
       by-use : (t : Bool) → ltb p used ≡ t → ((d : Best) (n : ℕ) → go m d n ≡ ok b → BestMet s used d → BestMet s used b)
-          → pick t (onSeen (λ d. ok d) (λ d. pick (eqb next 0) (ok d) (go m d next)) (λ f. ill f) (lookBest st active xmax cur key a p (page p s))) (ill (structural p)) ≡ ok b
+          → pick t (onSeen (λ d. ok d) (λ d. pick (eqb next 0) (ok d) (go m d next)) (λ f. ill f) (lookBest key sn st a p (page p s))) (ill (structural p)) ≡ ok b
           → BestMet s used b
-      by-use true t ih q = by-leaf ih (ltb-true p used t) (findLeaf st active xmax cur p key a (page p s)) refl q
+      by-use true t ih q = by-leaf ih (ltb-true p used t) (findLeaf (page p s) p key sn st a) refl q
       by-use false t ih q = absurd (let z : _≡_ {A = ℕ} 0 1 = cc in omega arith)
 
-  chain-met : (p : ℕ) {q : ℕ} {c : Cell} → bestAlong st active xmax cur used key p s ≡ ChainBest.Ok (Best.At q c) → Met used q c s
+  chain-met : (p : ℕ) {q : ℕ} {c : Cell} → bestAlong s used p key sn st ≡ ChainBest.Ok (Best.At q c) → CellMet used q c s
   unfolding bestAlong
   chain-met p {q} {c} e = by-told (go used Best.Nothing p) refl e
     where
-      by-told : (t : Told Best) → go used Best.Nothing p ≡ t → toldBest t ≡ ChainBest.Ok (Best.At q c) → Met used q c s
+      by-told : (t : Told Best) → go used Best.Nothing p ≡ t → toldBest t ≡ ChainBest.Ok (Best.At q c) → CellMet used q c s
       by-told (ok b) f u = let v : b ≡ Best.At q c = cc in along-met used Best.Nothing p (f ∙ ap (λ (x : Best). ok x) v) tt
       by-told (ill g) f u = absurd (let z : _≡_ {A = ℕ} 0 1 = cc in omega arith)
 
-  pub best-met : (root : ℕ) {p : ℕ} {c : Cell} → bestInTree st active xmax cur used root key s ≡ ChainBest.Ok (Best.At p c) → Met used p c s
+  pub best-met : (root : ℕ) {p : ℕ} {c : Cell} → bestInTree s used root key sn st ≡ ChainBest.Ok (Best.At p c) → CellMet used p c s
   unfolding bestInTree
   best-met root {p} {c} e = by-way (descendOf 3 (Route.Search key) used root s) e
     where
-      by-way : (d : Descent) → onLeaf (λ q. bestAlong st active xmax cur used key q s) (λ f. ChainBest.Bad f) d ≡ ChainBest.Ok (Best.At p c) → Met used p c s
+      by-way : (d : Descent) → onLeaf (λ q. bestAlong s used q key sn st) (λ f. ChainBest.Bad f) d ≡ ChainBest.Ok (Best.At p c) → CellMet used p c s
       by-way (Descent.Leaf q) u = chain-met q u
       by-way (Descent.Bad f) u = absurd (let z : _≡_ {A = ℕ} 0 1 = cc in omega arith)
 
@@ -247,7 +248,7 @@ module _ (pg : List ℕ) (short : length pg ≤ 4096) (p e : ℕ) (judged : judg
       }
 
 -- what a lookup found, with what stands beside it
-pub target-stands : (used : ℕ) (s : List ℕ) (t : Target) → Met used (t .leaf) (t .cell) s → t ≡ targetOf (t .leaf) (t .cell) (page (t .leaf) s)
+pub target-stands : (used : ℕ) (s : List ℕ) (t : Target) → CellMet used (t .leaf) (t .cell) s → t ≡ targetOf (t .leaf) (t .cell) (page (t .leaf) s)
     → Stands (page (t .leaf) s) (t .cell) (t .beside)
 target-stands used s t m is =
     let pg = page (t .leaf) s in

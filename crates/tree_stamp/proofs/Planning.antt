@@ -9,10 +9,10 @@ use Rattle.page.specs.declared.pool.State.{State}
 use Rattle.leaf.specs.declared.place.Cut.{Cut}
 use Rattle.tree_room.specs.Room.{planned, leafPlan}
 use Rattle.tree_room.specs.declared.LeafPlan.{LeafPlan}
-use Rattle.tree_room.proofs.Keeping.{planned-is}
-use Rattle.tree_room.proofs.Telling.{plan-told}
 use Rattle.tree_stamp.specs.Stamp.{bytesStamped, cutStamped, stampPlan}
 use Rattle.tree_stamp.specs.declared.Target.{Target}
+use Rattle.tree_room.proofs.Keeping.{planned-is}
+use Rattle.tree_room.proofs.Telling.{plan-told}
 
 -- where the leaf stays one, there is no cut
 plan-uncut : (st : State) (p : ℕ) (a b : Cut) (s : List ℕ) → leafPlan st p false a s ≡ leafPlan st p false b s

@@ -9,7 +9,8 @@ use Rattle.store.specs.Part.{zeros}
 use Rattle.page.specs.declared.pool.State.{State}
 use Rattle.row.specs.declared.Fault.{Fault}
 use Rattle.tree.specs.declared.ChainTest.{ChainTest}
-use Rattle.tree_room.specs.Room.{noFault, fitting, roomOf}
+use Rattle.row.specs.Fault.{noFault}
+use Rattle.tree_room.specs.Room.{fitting, roomOf}
 use Rattle.tree_room.specs.declared.Planned.{Planned}
 use Rattle.tree_room.specs.declared.LeafPlan.{LeafPlan}
 use Rattle.tree_stamp.specs.Stamp.{bytesStamped, stampPlan}

@@ -11,38 +11,40 @@ use lib.Dec.{ltb}
 use lib.ListN.{length}
 use Rattle.store.specs.Le.{AreBytes}
 use Rattle.store.specs.Part.{part, zeros}
-use Rattle.store.proofs.PutLaws.{length-spliced}
-use Rattle.store.proofs.SeamLaws.{spliced-before}
 use Rattle.page.specs.Page.{page}
 use Rattle.page.specs.Header.{cellCount}
 use Rattle.page.specs.Pool.{goodPool, allocated, withFresh}
 use Rattle.page.specs.Key.{rankAt}
 use Rattle.page.specs.declared.pool.State.{State}
 use Rattle.page.specs.declared.pool.Allocated.{Allocated}
-use Rattle.page.proofs.PageLaws.{length-page, lent-page, back-page}
-use Rattle.page.proofs.PoolLaws.{pool-is, alloc-page}
 use Rattle.row.specs.Write.{stampLen, cellBytes}
 use Rattle.row.specs.declared.Stamp.{Stamp}
-use Rattle.row.proofs.Writing.{stamp-len, length-cell}
-use Rattle.leaf.proofs.Bytes.{bytes-page}
 use Rattle.leaf_edit.specs.Edit.{withStamp}
-use Rattle.leaf_edit.proofs.Editing.{bodyOf, cell-ends}
 use Rattle.leaf_divide.specs.Divide.{divided}
 use Rattle.tree_grow.specs.Path.{pageAt, pagesAbove}
 use Rattle.tree_grow.specs.Grow.{grown, settled}
-use Rattle.tree_grow.specs.Safe.{There, AboveSafe}
-use Rattle.tree_grow.proofs.Stepping.{next-is, fresh-long, fresh-here, fresh-other}
+use Rattle.tree_grow.specs.Steps.Safe.{There, AboveSafe}
 use Rattle.tree_room.specs.Room.{planned, leafPlan, roomOf}
 use Rattle.tree_room.specs.Up.{dividedUp}
 use Rattle.tree_room.specs.declared.Planned.{Planned}
-use Rattle.tree_room.proofs.Keeping.{PlannedIs, planned-is, RoomLeft, room-left, room-is, up-asks, up-done}
-use Rattle.tree_stamp.specs.Target.{targetOf, Met}
-use Rattle.tree_stamp.specs.Stamp.{longer, bytesStamped, cutStamped, stampPlan, StampCutStands, splicedStamp, stampedAt}
+use Rattle.tree_stamp.specs.Target.{targetOf}
+use Rattle.tree_stamp.specs.Steps.Target.{CellMet}
+use Rattle.tree_stamp.specs.Stamp.{longer, bytesStamped, cutStamped, stampPlan, splicedStamp, stampedAt}
+use Rattle.tree_stamp.specs.Steps.Stamp.{StampCutStands}
 use Rattle.tree_stamp.specs.declared.Target.{Target}
+use Rattle.store.proofs.PutLaws.{length-spliced}
+use Rattle.store.proofs.SeamLaws.{spliced-before}
+use Rattle.page.proofs.PageLaws.{length-page, lent-page, back-page}
+use Rattle.page.proofs.PoolLaws.{pool-is, alloc-page}
+use Rattle.row.proofs.Writing.{stamp-len, length-cell}
+use Rattle.leaf.proofs.Bytes.{bytes-page}
+use Rattle.leaf_edit.proofs.Editing.{bodyOf, cell-ends}
+use Rattle.tree_grow.proofs.Stepping.{next-is, fresh-long, fresh-here, fresh-other}
+use Rattle.tree_room.proofs.Keeping.{PlannedIs, planned-is, RoomLeft, room-left, room-is, up-asks, up-done}
 use Rattle.tree_stamp.proofs.Meeting.{Stands, target-stands}
 use Rattle.tree_stamp.proofs.Cutting.{cut-stands}
 
-module _ (s : List ℕ) (st : State) (t : Target) (plan : Planned) (d : ℕ) (good : goodPool s st ≡ true) (met : Met (st .used) (t .leaf) (t .cell) s)
+module _ (s : List ℕ) (st : State) (t : Target) (plan : Planned) (d : ℕ) (good : goodPool s st ≡ true) (met : CellMet (st .used) (t .leaf) (t .cell) s)
     (is : t ≡ targetOf (t .leaf) (t .cell) (page (t .leaf) s)) (plans : stampPlan st t s ≡ planned plan) where
   abbrev pg : List ℕ
   pg = page (t .leaf) s

@@ -5,9 +5,9 @@ use Prim.Native.Nat.{ℕ, zero, suc, _+_, _≤_, _<_}
 use native.Mathlib.Omega.{arith}
 use lib.ListN.{length, take}
 use Rattle.row.specs.declared.Cell.{Cell}
-use Rattle.row.proofs.Exact.{cell-placed}
 use Rattle.leaf.specs.Place.{sizesOf}
 use Rattle.leaf.specs.CutFacts.{sum, Between}
+use Rattle.row.proofs.Exact.{cell-placed}
 use Rattle.leaf.proofs.Rowing.{endOf}
 use Rattle.leaf.proofs.Chain.{Chain}
 

@@ -2,3 +2,4 @@
 pub mod Target
 pub mod Stamp
 pub mod Ready
+pub mod Steps

@@ -13,11 +13,13 @@ use Rattle.row.specs.declared.Stamp.{Stamp}
 use Rattle.row.specs.declared.Pointer.{Pointer}
 use Rattle.row.specs.declared.Cell.{Cell}
 use Rattle.tree.specs.declared.ChainTest.{ChainTest}
-use Rattle.tree_room.specs.Room.{noFault, fitting, onLeafPlan, roomOf}
+use Rattle.row.specs.Fault.{noFault}
+use Rattle.tree_room.specs.Room.{fitting, onLeafPlan, roomOf}
 use Rattle.tree_room.specs.declared.Planned.{Planned}
 use Rattle.tree_stamp.specs.Stamp.{bytesStamped, stampPlan}
 use Rattle.tree_stamp.specs.declared.Target.{Target}
 use Rattle.tree_stamp.specs.declared.ready.Marking.{Marking}
+use Rattle.call_answers.specs.Names.{BadTree, Conflict}
 
 abbrev pub marking : Target → Planned → Marking
 marking t plan = record { ok = true; number = 0; fault = noFault; target = t; plan = plan }
@@ -57,6 +59,6 @@ markingByRoom t plan n = pick (eqb n 0) (marking t plan) (notMarking n noFault)
 unfoldable pub markingAt : List ℕ → State → ChainTest → Target → Marking
 markingAt s st test t =
     onLeafPlan
-    (λ plan. onTest (notMarking 7 noFault) (markingByRoom t plan (roomOf (length s / 4096) st (bytesStamped t) plan)) (notMarking 2) test)
-    (notMarking 2)
+    (λ plan. onTest (notMarking Conflict noFault) (markingByRoom t plan (roomOf (length s / 4096) st (bytesStamped t) plan)) (notMarking BadTree) test)
+    (notMarking BadTree)
     (stampPlan st t s)

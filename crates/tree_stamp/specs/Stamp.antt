@@ -7,13 +7,11 @@ use lib.Dec.{ltb}
 use Rattle.store.specs.Pick.{pick}
 use Rattle.store.specs.Part.{part, spliced}
 use Rattle.page.specs.Page.{page, setPage}
-use Rattle.page.specs.Header.{cellCount}
+use Rattle.page.specs.Header.{cellCount, headerSize, leafRoom}
 use Rattle.page.specs.declared.pool.State.{State}
-use Rattle.row.specs.Read.{cellAt}
 use Rattle.row.specs.Write.{stampLen, cellBytes}
 use Rattle.row.specs.declared.Stamp.{Stamp}
 use Rattle.row.specs.declared.Cell.{Cell}
-use Rattle.row.specs.declared.read.CellRead.{CellRead}
 use Rattle.leaf.specs.Place.{cutLeaf}
 use Rattle.leaf.specs.declared.place.Cut.{Cut}
 use Rattle.leaf_edit.specs.Edit.{withStamp}
@@ -30,29 +28,14 @@ longer c = 9 - stampLen (c .version .stamp)
 
 -- the bytes of all cells, with that one stamped
 abbrev pub bytesStamped : Target → ℕ
-bytesStamped t = t .beside .end - 12 + longer (t .cell)
+bytesStamped t = t .beside .end - headerSize + longer (t .cell)
 
 abbrev pub cutStamped : Target → List ℕ → Cut
 cutStamped t pg =
     cutLeaf (bytesStamped t) (t .beside .before) (t .cell .next) (cellCount pg - (t .beside .before + 1)) (t .cell .next - t .cell .at + longer (t .cell)) pg
 
 unfoldable pub stampPlan : State → Target → List ℕ → LeafPlan
-stampPlan st t s = leafPlan st (t .leaf) (ltb 4084 (bytesStamped t)) (cutStamped t (page (t .leaf) s)) s
-
--- a cut of n cells, one of them live and to be stamped: it goes between two of them, and both sides fit a page
-pub record StampCutStands (t : Target) (n : ℕ) (cut : Cut) (pg : List ℕ) : Type 0 where
-  pub there : cellAt pg (t .cell .at) ≡ CellRead.Got (t .cell)
-  pub live : t .cell .version .stamp ≡ Stamp.Absent
-  pub low : 12 ≤ t .cell .at
-  pub inside : t .cell .next ≤ t .beside .end
-  pub within : t .beside .end ≤ 4096
-  pub few : n < 65536
-  pub cells : cut .cells ≤ n
-  pub left : cut .bytes ≤ 4084
-  pub right : t .beside .end + 8 ≤ 4096 + cut .bytes
-  pub whole : 12 + cut .bytes ≤ t .beside .end + 8
-  pub before : cut .cells ≤ t .beside .before → 12 + cut .bytes ≤ t .cell .at
-  pub after : t .beside .before < cut .cells → t .cell .next + 8 ≤ 12 + cut .bytes
+stampPlan st t s = leafPlan st (t .leaf) (ltb leafRoom (bytesStamped t)) (cutStamped t (page (t .leaf) s)) s
 
 -- the leaf's bytes with the cell stamped by d; they may be more than a page holds
 abbrev pub splicedStamp : (d : ℕ) → Target → List ℕ → List ℕ

@@ -15,8 +15,10 @@ ghost use Rattle.leaf_divide.specs.Divide.{divided};
 ghost use Rattle.tree_grow.specs.Grow.{grown};
 ghost use Rattle.tree_room.specs.Room.{planned, roomOf};
 ghost use Rattle.tree_room.specs.Up.{dividedUp};
-ghost use Rattle.tree_stamp.specs.Target.{besideOf, targetOf, Met};
-ghost use Rattle.tree_stamp.specs.Stamp.{longer, bytesStamped, cutStamped, stampPlan, splicedStamp, StampCutStands, stampedAt};
+ghost use Rattle.tree_stamp.specs.Target.{besideOf, targetOf};
+ghost use Rattle.tree_stamp.specs.Steps.Target.{CellMet};
+ghost use Rattle.tree_stamp.specs.Stamp.{longer, bytesStamped, cutStamped, stampPlan, splicedStamp, stampedAt};
+ghost use Rattle.tree_stamp.specs.Steps.Stamp.{StampCutStands};
 use leaf::place::Cut;
 use page::PAGE_SIZE;
 use page::pool::State;
@@ -43,7 +45,7 @@ fn beside_cell(pg: &[u8], at: usize) -> Beside
 {
     let mut left = page::get_cell_count(pg) as usize;
     let mut before: usize = 0;
-    let mut end: usize = 12;
+    let mut end: usize = page::HEADER_SIZE;
     while 0 < left {
         let next = row::read::cell_end(pg, end);
         if next == 0 {
@@ -87,7 +89,7 @@ pub fn bytes_stamped(t: Target) -> usize
     ensures { λ r. ⌜ r ≡ bytesStamped t ⌝ }
 {
     let beside = t.beside;
-    beside.end - 12 + longer_by(t.cell)
+    beside.end - page::HEADER_SIZE + longer_by(t.cell)
 }
 
 fn cut_at(pool: &[u8], t: Target) -> Cut
@@ -105,10 +107,10 @@ fn cut_at(pool: &[u8], t: Target) -> Cut
 
 // What stamping it would take.
 pub fn plan_stamp(pool: &[u8], st: State, t: Target) -> LeafPlan
-    requires { ⌜ (st .used * 4096 ≤ length (now pool)) × Met (st .used) (t .leaf) (t .cell) (now pool) × (t ≡ targetOf (t .leaf) (t .cell) (page (t .leaf) (now pool))) ⌝ }
+    requires { ⌜ (st .used * 4096 ≤ length (now pool)) × CellMet (st .used) (t .leaf) (t .cell) (now pool) × (t ≡ targetOf (t .leaf) (t .cell) (page (t .leaf) (now pool))) ⌝ }
     ensures { λ r. ⌜ r ≡ stampPlan st t (now (pool .entry)) ⌝ }
 {
-    if 4084 < bytes_stamped(t) {
+    if page::LEAF_ROOM < bytes_stamped(t) {
         let cut = cut_at(pool, t);
         return tree_room::plan_leaf(pool, st, t.leaf, true, cut);
     }
@@ -133,7 +135,7 @@ fn divide_at(pool: &mut [u8], t: Target, q: u32, n: usize, cut: Cut, d: u64)
 
 fn store_divided(pool: &mut [u8], st: State, t: Target, plan: Planned, n: usize, d: u64) -> State
     requires { ⌜ (goodPool (now pool) st ≡ true) × (n ≡ cellCount (page (t .leaf) (now pool))) × (plan .over ≡ true) ⌝ }
-    requires { ⌜ Met (st .used) (t .leaf) (t .cell) (now pool) × (t ≡ targetOf (t .leaf) (t .cell) (page (t .leaf) (now pool))) ⌝ }
+    requires { ⌜ CellMet (st .used) (t .leaf) (t .cell) (now pool) × (t ≡ targetOf (t .leaf) (t .cell) (page (t .leaf) (now pool))) ⌝ }
     requires { ⌜ (stampPlan st t (now pool) ≡ planned plan) × (roomOf (length (now pool) / 4096) st (bytesStamped t) plan ≡ 0) ⌝ }
     ensures { λ r. ⌜ grown (now (pool .exit)) r ≡ dividedUp plan (t .leaf) n (splicedStamp d t (page (t .leaf) (now (pool .entry)))) (grown (now (pool .entry)) st) ⌝ }
 {
@@ -149,7 +151,7 @@ fn store_divided(pool: &mut [u8], st: State, t: Target, plan: Planned, n: usize,
 // The stamp of d, as planned.
 pub fn store_stamp(pool: &mut [u8], st: State, t: Target, plan: Planned, d: u64) -> State
     requires { ⌜ goodPool (now pool) st ≡ true ⌝ }
-    requires { ⌜ Met (st .used) (t .leaf) (t .cell) (now pool) × (t ≡ targetOf (t .leaf) (t .cell) (page (t .leaf) (now pool))) ⌝ }
+    requires { ⌜ CellMet (st .used) (t .leaf) (t .cell) (now pool) × (t ≡ targetOf (t .leaf) (t .cell) (page (t .leaf) (now pool))) ⌝ }
     requires { ⌜ (stampPlan st t (now pool) ≡ planned plan) × (roomOf (length (now pool) / 4096) st (bytesStamped t) plan ≡ 0) ⌝ }
     ensures { λ r. ⌜ grown (now (pool .exit)) r ≡ stampedAt d t plan (grown (now (pool .entry)) st) ⌝ }
 {

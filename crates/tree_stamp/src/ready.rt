@@ -3,8 +3,9 @@ ghost use mathlib.Core.Path.{_≡_};
 ghost use mathlib.Core.Bool.{true};
 ghost use Rattle.page.specs.Page.{page};
 ghost use Rattle.page.specs.Pool.{goodPool};
-ghost use Rattle.tree_room.specs.Room.{noFault};
-ghost use Rattle.tree_stamp.specs.Target.{targetOf, Met};
+ghost use Rattle.row.specs.Fault.{noFault};
+ghost use Rattle.tree_stamp.specs.Target.{targetOf};
+ghost use Rattle.tree_stamp.specs.Steps.Target.{CellMet};
 ghost use Rattle.tree_stamp.specs.Ready.{notMarking, markingByRoom, markingAt};
 use crate::Beside;
 use crate::Target;
@@ -63,14 +64,7 @@ pub fn refused_by(number: u8, fault: Fault) -> Marking
 pub fn refused(number: u8) -> Marking
     ensures { λ r. ⌜ r ≡ notMarking number noFault ⌝ }
 {
-    refused_by(
-        number,
-        Fault {
-            kind: 0,
-            page: 0,
-            offset: 0,
-        },
-    )
+    refused_by(number, row::NO_FAULT)
 }
 
 fn by_room(t: Target, plan: Planned, n: u8) -> Marking
@@ -80,11 +74,7 @@ fn by_room(t: Target, plan: Planned, n: u8) -> Marking
         return Marking {
             ok: true,
             number: 0,
-            fault: Fault {
-                kind: 0,
-                page: 0,
-                offset: 0,
-            },
+            fault: row::NO_FAULT,
             target: t,
             plan,
         };
@@ -94,7 +84,7 @@ fn by_room(t: Target, plan: Planned, n: u8) -> Marking
 
 // The target is found; test is what the conflict test says of it.
 pub fn marking_at(pool: &[u8], st: State, test: ChainTest, t: Target) -> Marking
-    requires { ⌜ (goodPool (now pool) st ≡ true) × Met (st .used) (t .leaf) (t .cell) (now pool) × (t ≡ targetOf (t .leaf) (t .cell) (page (t .leaf) (now pool))) ⌝ }
+    requires { ⌜ (goodPool (now pool) st ≡ true) × CellMet (st .used) (t .leaf) (t .cell) (now pool) × (t ≡ targetOf (t .leaf) (t .cell) (page (t .leaf) (now pool))) ⌝ }
     ensures { λ r. ⌜ r ≡ markingAt (now (pool .entry)) st test t ⌝ }
 {
     let told = crate::plan_stamp(pool, st, t);

@@ -13,16 +13,16 @@ rank-of-requires c κs = search needs
 remove-at-requires : tie.Need-remove-at-requires
 remove-at-requires c κs = search needs
 
-dropped-of-requires : tie.Need-dropped-of-requires
-dropped-of-requires c κs = search needs
+counted-of-requires : tie.Need-counted-of-requires
+counted-of-requires c κs = search needs
 
 same-length : tie.Need-same-length
 same-length c = search needs
 
 returns : tie.Need-returns
-returns c = remove-call _ _ _ (c .before .before .before .before .before .rank-of .ensures ∙ ap rankOf (toZ-ofZ (c .before .before .before .before .before .before .before .fits .key))) (c .before .before .before .remove-at .ensures) (c .dropped-of .ensures)
+returns c = remove-call _ _ _ (c .before .before .before .before .before .rank-of .ensures ∙ ap rankOf (toZ-ofZ (c .before .before .before .before .before .before .before .fits .key))) (c .before .before .before .remove-at .ensures) (c .counted-of .ensures)
 
 pub remove-all-versions-spec : {M : Type 1} → statement M
 remove-all-versions-spec =
     tie.close
-    (tie.spec rank-of-requires remove-at-requires dropped-of-requires same-length returns)
+    (tie.spec rank-of-requires remove-at-requires counted-of-requires same-length returns)

@@ -19,7 +19,7 @@ same-length : tie.Need-same-length
 same-length c = search needs
 
 returns : tie.Need-returns
-returns c = vacuum-pool _ _ _ _ _ (c .before .before .pool-is-good .ensures) (not-true _ (c .before .if1 .taken)) (c .refused .ensures)
+returns c = vacuum-pool _ _ _ _ (c .before .before .pool-is-good .ensures) (not-true _ (c .before .if1 .taken)) (c .refused .ensures)
 
 good-statuses-requires : tie.Need-good-statuses-requires
 good-statuses-requires c κs = search needs
@@ -35,7 +35,7 @@ returns-2 c =
     let list = c .before .before in
     let good = list .before in
     let pool = good .before in
-    vacuum-statuses _ _ _ _ _ (pool .pool-is-good .ensures) (not-false _ (good .if1 .left)) (list .good-statuses .ensures) (not-true _ (c .before .if2 .taken)) (c .refused2 .ensures)
+    vacuum-statuses _ _ _ _ (pool .pool-is-good .ensures) (not-false _ (good .if1 .left)) (list .good-statuses .ensures) (not-true _ (c .before .if2 .taken)) (c .refused2 .ensures)
 
 descend-requires : tie.Need-descend-requires
 descend-requires c κs =
@@ -74,7 +74,7 @@ vacuum-along-requires c κs =
     let good = list .before in
     let pool = good .before in
     let p = pool-is _ _ (sym (pool .pool-is-good .ensures) ∙ not-false _ (good .if1 .left)) in
-    (p .room, omega (arith, p .in-use, p .few), good-statuses-judged _ _ (sym (list .good-statuses .ensures) ∙ not-false _ (sound .if2 .left)))
+    (p .room, omega (arith, p .in-use, p .few), good-statuses-judged _ (sym (list .good-statuses .ensures) ∙ not-false _ (sound .if2 .left)))
 
 same-length-3 : tie.Need-same-length-3
 same-length-3 c = search needs
@@ -86,7 +86,7 @@ returns-3 c =
     let list = sound .before in
     let good = list .before in
     let pool = good .before in
-    vacuum-lost _ _ _ _ _ (pool .pool-is-good .ensures) (not-false _ (good .if1 .left)) (list .good-statuses .ensures) (not-false _ (sound .if2 .left)) (way .descend .ensures) (c .before .before .f .given .1) (c .bad-tree .ensures)
+    vacuum-lost _ _ _ _ (pool .pool-is-good .ensures) (not-false _ (good .if1 .left)) (list .good-statuses .ensures) (not-false _ (sound .if2 .left)) (way .descend .ensures) (c .before .before .f .given .1) (c .bad-tree .ensures)
 
 same-length-4 : tie.Need-same-length-4
 same-length-4 c = search needs
@@ -100,7 +100,7 @@ returns-4 c =
     let list = sound .before in
     let good = list .before in
     let pool = good .before in
-    vacuum-ill _ _ _ _ _ (pool .pool-is-good .ensures) (not-false _ (good .if1 .left)) (list .good-statuses .ensures) (not-false _ (sound .if2 .left)) (way .descend .ensures) (leaf .p .given .1) (judged .judge-along .ensures) (c .before .before .f2 .given .1) (c .bad-tree2 .ensures)
+    vacuum-ill _ _ _ _ (pool .pool-is-good .ensures) (not-false _ (good .if1 .left)) (list .good-statuses .ensures) (not-false _ (sound .if2 .left)) (way .descend .ensures) (leaf .p .given .1) (judged .judge-along .ensures) (c .before .before .f2 .given .1) (c .bad-tree2 .ensures)
 
 same-length-5 : tie.Need-same-length-5
 same-length-5 c = search needs
@@ -116,7 +116,7 @@ returns-5 c =
     let list = sound .before in
     let good = list .before in
     let pool = good .before in
-    vacuum-done _ _ _ _ _ (pool .pool-is-good .ensures) (not-false _ (good .if1 .left)) (list .good-statuses .ensures) (not-false _ (sound .if2 .left)) (way .descend .ensures) (leaf .p .given .1) (judged .judge-along .ensures) (told .enum-told .given .1) (made .vacuum-along .ensures)
+    vacuum-done _ _ _ _ (pool .pool-is-good .ensures) (not-false _ (good .if1 .left)) (list .good-statuses .ensures) (not-false _ (sound .if2 .left)) (way .descend .ensures) (leaf .p .given .1) (judged .judge-along .ensures) (told .enum-told .given .1) (made .vacuum-along .ensures)
 
 pub vacuum-at-spec : {M : Type 1} → statement M
 vacuum-at-spec =

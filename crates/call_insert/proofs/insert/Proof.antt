@@ -20,7 +20,7 @@ same-length : tie.Need-same-length
 same-length c = search needs
 
 returns : tie.Need-returns
-returns c = insert-call _ _ _ _ _ _ (c .before .before .before .before .before .rank-of .ensures ∙ ap rankOf (toZ-ofZ (c .before .before .before .before .before .before .before .before .before .before .fits .key))) (c .before .before .before .insert-at .ensures) (c .stated-of .ensures)
+returns c = insert-call _ _ _ _ _ (c .before .before .before .before .before .rank-of .ensures ∙ ap rankOf (toZ-ofZ (c .before .before .before .before .before .before .before .before .before .before .fits .key))) (c .before .before .before .insert-at .ensures) (c .stated-of .ensures)
 
 pub insert-spec : {M : Type 1} → statement M
 insert-spec = tie.close (tie.spec rank-of-requires insert-at-requires stated-of-requires same-length returns)

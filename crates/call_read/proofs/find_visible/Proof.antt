@@ -20,13 +20,13 @@ enum-known-p : tie.Need-enum-known-p
 enum-known-p c = search needs
 
 version-in-pool-requires : tie.Need-version-in-pool-requires
-version-in-pool-requires c κs = run-small _ _ _ _ _ _ _ _ (c .before .before .before .find-visible-at .ensures) (c .before .p .given .1)
+version-in-pool-requires c κs = run-small _ _ _ _ _ (c .before .before .before .find-visible-at .ensures) (c .before .p .given .1)
 
 returns : tie.Need-returns
-returns c = call-refused _ _ _ _ _ _ _ _ (c .before .before .before .before .rank-of .ensures ∙ ap rankOf (toZ-ofZ (c .before .before .before .before .before .before .before .before .before .fits .key))) (c .before .before .before .find-visible-at .ensures) (c .before .r .given .1)
+returns c = call-refused _ _ _ _ _ (c .before .before .before .before .rank-of .ensures ∙ ap rankOf (toZ-ofZ (c .before .before .before .before .before .before .before .before .before .fits .key))) (c .before .before .before .find-visible-at .ensures) (c .before .r .given .1)
 
 returns-2 : tie.Need-returns-2
-returns-2 c = call-found _ _ _ _ _ _ _ _ (c .before .before .before .before .before .rank-of .ensures ∙ ap rankOf (toZ-ofZ (c .before .before .before .before .before .before .before .before .before .before .fits .key))) (c .before .before .before .before .find-visible-at .ensures) (c .before .before .p .given .1) (c .version-in-pool .ensures)
+returns-2 c = call-found _ _ _ _ _ (c .before .before .before .before .before .rank-of .ensures ∙ ap rankOf (toZ-ofZ (c .before .before .before .before .before .before .before .before .before .before .fits .key))) (c .before .before .before .before .find-visible-at .ensures) (c .before .before .p .given .1) (c .version-in-pool .ensures)
 
 pub find-visible-spec : {M : Type 1} → statement M
 find-visible-spec =

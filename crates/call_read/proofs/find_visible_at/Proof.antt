@@ -17,31 +17,31 @@ good-statuses-requires : tie.Need-good-statuses-requires
 good-statuses-requires c κs = search needs
 
 best-in-tree-requires : tie.Need-best-in-tree-requires
-best-in-tree-requires c κs = (pool-is _ _ (sym (c .before .before .before .before .before .pool-is-good .ensures) ∙ c .before .before .before .before .if1 .taken) .room, good-statuses-judged _ _ (sym (c .before .good-statuses .ensures) ∙ c .if3 .taken), good-active-rises _ (sym (c .before .before .before .good-active .ensures) ∙ c .before .before .if2 .taken))
+best-in-tree-requires c κs = (pool-is _ _ (sym (c .before .before .before .before .before .pool-is-good .ensures) ∙ c .before .before .before .before .if1 .taken) .room, good-statuses-judged _ (sym (c .before .good-statuses .ensures) ∙ c .if3 .taken), good-active-rises _ (sym (c .before .before .before .good-active .ensures) ∙ c .before .before .if2 .taken))
 
 looked-of-requires : tie.Need-looked-of-requires
 looked-of-requires c κs = search needs
 
 returns : tie.Need-returns
-returns c = run-look _ _ _ _ _ _ _ _ (c .before .before .before .before .before .before .before .pool-is-good .ensures) (c .before .before .before .before .before .before .if1 .taken) (c .before .before .before .before .before .good-active .ensures) (c .before .before .before .before .if2 .taken) (c .before .before .before .good-statuses .ensures) (c .before .before .if3 .taken) (c .before .best-in-tree .ensures) (c .looked-of .ensures)
+returns c = run-look _ _ _ _ _ (c .before .before .before .before .before .before .before .pool-is-good .ensures) (c .before .before .before .before .before .before .if1 .taken) (c .before .before .before .before .before .good-active .ensures) (c .before .before .before .before .if2 .taken) (c .before .before .before .good-statuses .ensures) (c .before .before .if3 .taken) (c .before .best-in-tree .ensures) (c .looked-of .ensures)
 
-plain-refusal-requires : tie.Need-plain-refusal-requires
-plain-refusal-requires c κs = search needs
+refuse-requires : tie.Need-refuse-requires
+refuse-requires c κs = search needs
 
 returns-2 : tie.Need-returns-2
-returns-2 c = run-statuses _ _ _ _ _ _ _ _ (c .before .before .before .before .before .before .pool-is-good .ensures) (c .before .before .before .before .before .if1 .taken) (c .before .before .before .before .good-active .ensures) (c .before .before .before .if2 .taken) (c .before .before .good-statuses .ensures) (c .before .if3 .left) (c .plain-refusal .ensures)
+returns-2 c = run-statuses _ _ _ _ _ (c .before .before .before .before .before .before .pool-is-good .ensures) (c .before .before .before .before .before .if1 .taken) (c .before .before .before .before .good-active .ensures) (c .before .before .before .if2 .taken) (c .before .before .good-statuses .ensures) (c .before .if3 .left) (c .refuse .ensures)
 
-plain-refusal-requires-2 : tie.Need-plain-refusal-requires-2
-plain-refusal-requires-2 c κs = search needs
+refuse-requires-2 : tie.Need-refuse-requires-2
+refuse-requires-2 c κs = search needs
 
 returns-3 : tie.Need-returns-3
-returns-3 c = run-active _ _ _ _ _ _ _ _ (c .before .before .before .before .pool-is-good .ensures) (c .before .before .before .if1 .taken) (c .before .before .good-active .ensures) (c .before .if2 .left) (c .plain-refusal2 .ensures)
+returns-3 c = run-active _ _ _ _ _ (c .before .before .before .before .pool-is-good .ensures) (c .before .before .before .if1 .taken) (c .before .before .good-active .ensures) (c .before .if2 .left) (c .refuse2 .ensures)
 
-plain-refusal-requires-3 : tie.Need-plain-refusal-requires-3
-plain-refusal-requires-3 c κs = search needs
+refuse-requires-3 : tie.Need-refuse-requires-3
+refuse-requires-3 c κs = search needs
 
 returns-4 : tie.Need-returns-4
-returns-4 c = run-pool _ _ _ _ _ _ _ _ (c .before .before .pool-is-good .ensures) (c .before .if1 .left) (c .plain-refusal3 .ensures)
+returns-4 c = run-pool _ _ _ _ _ (c .before .before .pool-is-good .ensures) (c .before .if1 .left) (c .refuse3 .ensures)
 
 pub find-visible-at-spec : {M : Type 1} → statement M
 find-visible-at-spec =
@@ -53,9 +53,9 @@ find-visible-at-spec =
     best-in-tree-requires
     looked-of-requires
     returns
-    plain-refusal-requires
+    refuse-requires
     returns-2
-    plain-refusal-requires-2
+    refuse-requires-2
     returns-3
-    plain-refusal-requires-3
+    refuse-requires-3
     returns-4)

@@ -43,13 +43,13 @@ told-of-requires : tie.Need-told-of-requires
 told-of-requires c κs = search needs
 
 returns : tie.Need-returns
-returns c = conflict-test _ _ _ _ _ _ _ (c .before .before .before .before .before .before .before .pool-is-good .ensures) (c .before .before .before .before .before .before .if1 .taken) (c .before .before .before .before .before .good-active .ensures) (c .before .before .before .before .if2 .taken) (c .before .before .before .before .before .before .before .before .rank-of .ensures ∙ ap rankOf (toZ-ofZ (c .before .before .before .before .before .before .before .before .before .before .before .fits .key))) (c .before .test-in-tree .ensures) (c .told-of .ensures)
+returns c = conflict-test _ _ _ _ _ (c .before .before .before .before .before .before .before .pool-is-good .ensures) (c .before .before .before .before .before .before .if1 .taken) (c .before .before .before .before .before .good-active .ensures) (c .before .before .before .before .if2 .taken) (c .before .before .before .before .before .before .before .before .rank-of .ensures ∙ ap rankOf (toZ-ofZ (c .before .before .before .before .before .before .before .before .before .before .before .fits .key))) (c .before .test-in-tree .ensures) (c .told-of .ensures)
 
 returns-2 : tie.Need-returns-2
-returns-2 c = conflict-active _ _ _ _ _ _ _ (c .before .before .before .pool-is-good .ensures) (c .before .before .if1 .taken) (c .before .good-active .ensures) (c .if2 .left)
+returns-2 c = conflict-active _ _ _ _ _ (c .before .before .before .pool-is-good .ensures) (c .before .before .if1 .taken) (c .before .good-active .ensures) (c .if2 .left)
 
 returns-3 : tie.Need-returns-3
-returns-3 c = conflict-pool _ _ _ _ _ _ _ (c .before .pool-is-good .ensures) (c .if1 .left)
+returns-3 c = conflict-pool _ _ _ _ _ (c .before .pool-is-good .ensures) (c .if1 .left)
 
 pub has-write-conflict-spec : {M : Type 1} → statement M
 has-write-conflict-spec =

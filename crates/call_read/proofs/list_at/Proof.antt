@@ -21,11 +21,11 @@ same-length c = search needs
 returns : tie.Need-returns
 returns c = list-run _ _ _ _ (c .before .before .before .before .before .before .pool-is-good .ensures) (c .before .before .before .before .before .if1 .taken) (c .before .before .before .list-tree .ensures) (c .listed-at .ensures)
 
-plain-refusal-requires : tie.Need-plain-refusal-requires
-plain-refusal-requires c κs = search needs
+refuse-requires : tie.Need-refuse-requires
+refuse-requires c κs = search needs
 
 returns-2 : tie.Need-returns-2
-returns-2 c = list-pool _ _ _ _ (c .before .before .pool-is-good .ensures) (c .before .if1 .left) (c .plain-refusal .ensures)
+returns-2 c = list-pool _ _ _ _ (c .before .before .pool-is-good .ensures) (c .before .if1 .left) (c .refuse .ensures)
 
 pub list-at-spec : {M : Type 1} → statement M
 list-at-spec =
@@ -36,5 +36,5 @@ list-at-spec =
     listed-at-requires
     same-length
     returns
-    plain-refusal-requires
+    refuse-requires
     returns-2)

@@ -9,8 +9,8 @@ enum-known-r c = search needs
 enum-told : tie.Need-enum-told
 enum-told c = search needs
 
-plain-refusal-requires : tie.Need-plain-refusal-requires
-plain-refusal-requires c κs = search needs
+refuse-requires : tie.Need-refuse-requires
+refuse-requires c κs = search needs
 
 enum-known-r-2 : tie.Need-enum-known-r-2
 enum-known-r-2 c = search needs
@@ -19,7 +19,7 @@ returns : tie.Need-returns
 returns c = rw (c .before .r .given .1)
 
 returns-2 : tie.Need-returns-2
-returns-2 c = rw ((c .before .enum-told .given .1), (c .plain-refusal .ensures))
+returns-2 c = rw ((c .before .enum-told .given .1), (c .refuse .ensures))
 
 returns-3 : tie.Need-returns-3
 returns-3 c = rw (c .before .r2 .given .1)
@@ -30,7 +30,7 @@ listed-at-spec =
     (tie.spec
     enum-known-r
     enum-told
-    plain-refusal-requires
+    refuse-requires
     enum-known-r-2
     returns
     returns-2

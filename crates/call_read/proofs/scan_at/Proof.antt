@@ -17,7 +17,7 @@ good-statuses-requires : tie.Need-good-statuses-requires
 good-statuses-requires c κs = search needs
 
 scan-tree-requires : tie.Need-scan-tree-requires
-scan-tree-requires c κs = (pool-is _ _ (sym (c .before .before .before .before .before .before .pool-is-good .ensures) ∙ c .before .before .before .before .before .if1 .taken) .room, good-statuses-judged _ _ (sym (c .before .before .good-statuses .ensures) ∙ c .before .if3 .taken), good-active-rises _ (sym (c .before .before .before .before .good-active .ensures) ∙ c .before .before .before .if2 .taken))
+scan-tree-requires c κs = (pool-is _ _ (sym (c .before .before .before .before .before .before .pool-is-good .ensures) ∙ c .before .before .before .before .before .if1 .taken) .room, good-statuses-judged _ (sym (c .before .before .good-statuses .ensures) ∙ c .before .if3 .taken), good-active-rises _ (sym (c .before .before .before .before .good-active .ensures) ∙ c .before .before .before .if2 .taken))
 
 listed-at-requires : tie.Need-listed-at-requires
 listed-at-requires c κs = search needs
@@ -26,25 +26,25 @@ same-length : tie.Need-same-length
 same-length c = search needs
 
 returns : tie.Need-returns
-returns c = scan-run _ _ _ _ _ _ _ _ (c .before .before .before .before .before .before .before .before .before .before .pool-is-good .ensures) (c .before .before .before .before .before .before .before .before .before .if1 .taken) (c .before .before .before .before .before .before .before .before .good-active .ensures) (c .before .before .before .before .before .before .before .if2 .taken) (c .before .before .before .before .before .before .good-statuses .ensures) (c .before .before .before .before .before .if3 .taken) (c .before .before .before .scan-tree .ensures) (c .listed-at .ensures)
+returns c = scan-run _ _ _ _ _ (c .before .before .before .before .before .before .before .before .before .before .pool-is-good .ensures) (c .before .before .before .before .before .before .before .before .before .if1 .taken) (c .before .before .before .before .before .before .before .before .good-active .ensures) (c .before .before .before .before .before .before .before .if2 .taken) (c .before .before .before .before .before .before .good-statuses .ensures) (c .before .before .before .before .before .if3 .taken) (c .before .before .before .scan-tree .ensures) (c .listed-at .ensures)
 
-plain-refusal-requires : tie.Need-plain-refusal-requires
-plain-refusal-requires c κs = search needs
+refuse-requires : tie.Need-refuse-requires
+refuse-requires c κs = search needs
 
 returns-2 : tie.Need-returns-2
-returns-2 c = scan-statuses _ _ _ _ _ _ _ _ (c .before .before .before .before .before .before .pool-is-good .ensures) (c .before .before .before .before .before .if1 .taken) (c .before .before .before .before .good-active .ensures) (c .before .before .before .if2 .taken) (c .before .before .good-statuses .ensures) (c .before .if3 .left) (c .plain-refusal .ensures)
+returns-2 c = scan-statuses _ _ _ _ _ (c .before .before .before .before .before .before .pool-is-good .ensures) (c .before .before .before .before .before .if1 .taken) (c .before .before .before .before .good-active .ensures) (c .before .before .before .if2 .taken) (c .before .before .good-statuses .ensures) (c .before .if3 .left) (c .refuse .ensures)
 
-plain-refusal-requires-2 : tie.Need-plain-refusal-requires-2
-plain-refusal-requires-2 c κs = search needs
+refuse-requires-2 : tie.Need-refuse-requires-2
+refuse-requires-2 c κs = search needs
 
 returns-3 : tie.Need-returns-3
-returns-3 c = scan-active _ _ _ _ _ _ _ _ (c .before .before .before .before .pool-is-good .ensures) (c .before .before .before .if1 .taken) (c .before .before .good-active .ensures) (c .before .if2 .left) (c .plain-refusal2 .ensures)
+returns-3 c = scan-active _ _ _ _ _ (c .before .before .before .before .pool-is-good .ensures) (c .before .before .before .if1 .taken) (c .before .before .good-active .ensures) (c .before .if2 .left) (c .refuse2 .ensures)
 
-plain-refusal-requires-3 : tie.Need-plain-refusal-requires-3
-plain-refusal-requires-3 c κs = search needs
+refuse-requires-3 : tie.Need-refuse-requires-3
+refuse-requires-3 c κs = search needs
 
 returns-4 : tie.Need-returns-4
-returns-4 c = scan-pool _ _ _ _ _ _ _ _ (c .before .before .pool-is-good .ensures) (c .before .if1 .left) (c .plain-refusal3 .ensures)
+returns-4 c = scan-pool _ _ _ _ _ (c .before .before .pool-is-good .ensures) (c .before .if1 .left) (c .refuse3 .ensures)
 
 pub scan-at-spec : {M : Type 1} → statement M
 scan-at-spec =
@@ -57,9 +57,9 @@ scan-at-spec =
     listed-at-requires
     same-length
     returns
-    plain-refusal-requires
+    refuse-requires
     returns-2
-    plain-refusal-requires-2
+    refuse-requires-2
     returns-3
-    plain-refusal-requires-3
+    refuse-requires-3
     returns-4)

@@ -13,7 +13,7 @@ returns : tie.Need-returns
 returns c = rw (c .before .r .given .1)
 
 returns-2 : tie.Need-returns-2
-returns-2 c = search needs
+returns-2 c = rw (c .enum-told .given .1)
 
 pub told-of-spec : {M : Type 1} → statement M
 told-of-spec = tie.close (tie.spec enum-known-r enum-told returns returns-2)

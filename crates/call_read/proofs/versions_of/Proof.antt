@@ -13,15 +13,15 @@ rank-of-requires c κs = search needs
 list-at-requires : tie.Need-list-at-requires
 list-at-requires c κs = search needs
 
-listed-of-requires : tie.Need-listed-of-requires
-listed-of-requires c κs = search needs
+counted-of-requires : tie.Need-counted-of-requires
+counted-of-requires c κs = search needs
 
 same-length : tie.Need-same-length
 same-length c = search needs
 
 returns : tie.Need-returns
-returns c = call-key _ _ _ (c .listed-of .ensures) ((c .before .before .before .before .before .rank-of .ensures) ∙ ap rankOf (toZ-ofZ (c .before .before .before .before .before .before .before .before .fits .key))) (c .before .before .before .list-at .ensures)
+returns c = call-key _ _ _ (c .counted-of .ensures) ((c .before .before .before .before .before .rank-of .ensures) ∙ ap rankOf (toZ-ofZ (c .before .before .before .before .before .before .before .before .fits .key))) (c .before .before .before .list-at .ensures)
 
 pub versions-of-spec : {M : Type 1} → statement M
 versions-of-spec =
-    tie.close (tie.spec rank-of-requires list-at-requires listed-of-requires same-length returns)
+    tie.close (tie.spec rank-of-requires list-at-requires counted-of-requires same-length returns)

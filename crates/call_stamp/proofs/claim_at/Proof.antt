@@ -12,13 +12,13 @@ creator-of-requires : tie.Need-creator-of-requires
 creator-of-requires c κs = search needs
 
 mark-requires : tie.Need-mark-requires
-mark-requires c κs = λ h. claim-ok _ _ _ _ _ _ _ _ (c .before .before .claim-ready .ensures) h
+mark-requires c κs = λ h. claim-ok _ _ _ _ _ (c .before .before .claim-ready .ensures) h
 
 same-length : tie.Need-same-length
 same-length c = search needs
 
 returns : tie.Need-returns
-returns c = claim-run _ _ _ _ _ _ _ _ (c .before .before .before .before .before .claim-ready .ensures) (c .before .before .before .creator-of .ensures) (c .before .before .mark .ensures)
+returns c = claim-run _ _ _ _ _ (c .before .before .before .before .before .claim-ready .ensures) (c .before .before .before .creator-of .ensures) (c .before .before .mark .ensures)
 
 pub claim-at-spec : {M : Type 1} → statement M
 claim-at-spec = tie.close (tie.spec claim-ready-requires creator-of-requires mark-requires same-length returns)

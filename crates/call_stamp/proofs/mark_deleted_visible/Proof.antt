@@ -20,7 +20,7 @@ same-length : tie.Need-same-length
 same-length c = search needs
 
 returns : tie.Need-returns
-returns c = mark-call _ _ _ _ _ _ _ _ (c .before .before .before .before .before .rank-of .ensures ∙ ap rankOf (toZ-ofZ (c .before .before .before .before .before .before .before .before .before .before .fits .key))) (c .before .before .before .mark-at .ensures) (c .stated-of .ensures)
+returns c = mark-call _ _ _ _ _ (c .before .before .before .before .before .rank-of .ensures ∙ ap rankOf (toZ-ofZ (c .before .before .before .before .before .before .before .before .before .before .fits .key))) (c .before .before .before .mark-at .ensures) (c .stated-of .ensures)
 
 pub mark-deleted-visible-spec : {M : Type 1} → statement M
 mark-deleted-visible-spec = tie.close (tie.spec rank-of-requires mark-at-requires stated-of-requires same-length returns)

@@ -3,7 +3,8 @@ use mathlib.Core.Path.{_≡_, refl, _∙_}
 use Prim.Native.Nat.{_+_, _-_, _≤_}
 use native.Mathlib.Omega.{arith}
 use lib.ListN.{length}
-use Rattle.inner_edit.specs.Edit.{adopted, AdoptSafe}
+use Rattle.inner_edit.specs.Edit.{adopted}
+use Rattle.inner_edit.specs.Steps.Edit.{AdoptSafe}
 use Rattle.inner_edit.proofs.Editing.{adopt-here, adopt-safe, adopt-turn, adopt-end}
 use borrow.Author.Needs.{needs}
 use Rattle.inner_edit.proofs.adopt.Statement.{statement}

@@ -1,6 +1,6 @@
 -- `inner_edit::write_top` meets its contract. Assumes nothing.
 use mathlib.Core.Path.{_∙_}
-use Rattle.inner_edit.specs.Edit.{topOf}
+use Rattle.inner_edit.specs.Edit.{topPage}
 use borrow.Author.Needs.{needs}
 use Rattle.inner_edit.proofs.write_top.Statement.{statement}
 use Rattle.inner_edit.proofs.write_top.Tie as tie
@@ -24,7 +24,7 @@ same-length : tie.Need-same-length
 same-length c = search needs
 
 returns : tie.Need-returns
-unfolding topOf
+unfolding topPage
 returns c = c .before .before .put322 .ensures ∙ rw (c .before .before .before .before .before .before .put-rank .ensures, c .before .before .before .before .before .before .before .before .before .before .put32 .ensures, c .before .before .before .before .before .before .before .before .before .before .before .before .before .before .set-cell-count .ensures, c .before .before .before .before .before .before .before .before .before .before .before .before .before .before .before .before .before .before .set-is-root .ensures)
 
 pub write-top-spec : {M : Type 1} → statement M

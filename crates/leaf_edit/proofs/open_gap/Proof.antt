@@ -1,5 +1,5 @@
 -- `leaf_edit::edit::open_gap` meets its contract. Assumes nothing.
-use Rattle.leaf_edit.specs.Edit.{gapped}
+use Rattle.leaf_edit.specs.Steps.Edit.{gapped}
 use mathlib.Core.Path.{_∙_}
 use borrow.Author.Needs.{needs}
 use Rattle.leaf_edit.proofs.open_gap.Statement.{statement}

@@ -6,7 +6,7 @@ use Prim.Native.Nat.{_+_, _≤_, _<_}
 use native.Mathlib.Omega.{arith}
 use denote.Ref.{now}
 use lib.ListN.{length}
-use Rattle.mvcc.specs.Lists.{lookup}
+use Rattle.mvcc.specs.Snapshot.{lookup, statuses}
 use Rattle.leaf.specs.RowFacts.{Sound}
 use Rattle.leaf_vacuum.specs.Vacuum.{Swept, sweep}
 use Rattle.leaf_vacuum.proofs.Sweeping.{sound-stands, Left, left-next, cleared-stamped, sweep-done, sweep-bad, sweep-same, sweep-dropped, sweep-cleared}
@@ -17,7 +17,7 @@ use Rattle.leaf_vacuum.proofs.vacuum_leaf.Tie as tie
 abbrev Inv-loop : tie.InvT-loop
 Inv-loop pg₀ ids states bound e n left₀ at₀ end₀ count₀ dropped₀ changed₀ pg left at end count dropped changed =
     Left left at end pg
-    × (sweep (lookup ids states) bound left at end count dropped changed pg ≡ sweep (lookup ids states) bound n 12 e n 0 false pg₀)
+    × (sweep (lookup (statuses ids states)) bound left at end count dropped changed pg ≡ sweep (lookup (statuses ids states)) bound n 12 e n 0 false pg₀)
     × (length pg ≡ 4096)
     × (left ≤ count)
     × (count < 65536)

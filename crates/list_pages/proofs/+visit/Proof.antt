@@ -5,7 +5,7 @@ use mathlib.Core.List.{[], _∷_, _++_}
 use native.Mathlib.Omega.{arith}
 use lib.ListN.{length}
 use Rattle.page.specs.Page.{page}
-use Rattle.list_pages.specs.Table.{logOf, lineOf}
+use Rattle.list_pages.specs.Steps.Table.{logOf, lineOf}
 use Rattle.list_pages.proofs.Lines.{four, line-longer}
 use Rattle.list_pages.proofs.Tops.{page-is}
 use Rattle.list_pages.proofs.Visits.{ended-bad, ended-ok, told-bad, told-ok, kidsOf, visit-bad, visit-skip, visit-page, kids-end, kids-bad, kids-on, visit-grows, room, cap-some, room-start, room-step}

@@ -3,7 +3,7 @@ use mathlib.Core.Path.{refl, ap, _∙_}
 use mathlib.Core.List.{List}
 use Prim.Native.Nat.{ℕ}
 use native.Mathlib.Omega.{arith}
-use Rattle.list_records.specs.Listed.{written}
+use Rattle.call_answers.specs.Answer.{written}
 use Rattle.list_records.specs.declared.Listing.{Listing}
 use Rattle.list_pages.proofs.Numbering.{list-bad, list-few, list-short, list-done, zeros-again, lent-none}
 use borrow.Author.Needs.{needs}

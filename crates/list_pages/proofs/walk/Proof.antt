@@ -1,8 +1,8 @@
 -- `list_pages::walk` meets its contract. Assumes nothing.
 use mathlib.Core.Path.{refl}
 use Rattle.store.specs.Part.{zeros}
+use Rattle.list_pages.specs.Steps.Table.{capOf}
 use Rattle.store.proofs.PutLaws.{part-none}
-use Rattle.list_pages.specs.Table.{capOf}
 use borrow.Author.Needs.{needs}
 use Rattle.list_pages.proofs.walk.Statement.{statement}
 use Rattle.list_pages.proofs.walk.Tie as tie

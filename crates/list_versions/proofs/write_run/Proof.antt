@@ -5,10 +5,10 @@ use native.Mathlib.Omega.{arith}
 use lib.ListN.{length}
 use denote.Ref.{now}
 use Rattle.store.specs.Part.{part, put}
-use Rattle.store.proofs.PutLaws.{put-done}
 use Rattle.leaf.specs.Cells.{cellsOf}
 use Rattle.leaf.specs.Rows.{rowsOf}
 use Rattle.list_records.specs.Records.{records}
+use Rattle.store.proofs.PutLaws.{put-done}
 use Rattle.list_versions.proofs.Recorded.{first-cell, no-cells, record-more}
 use borrow.Author.Needs.{needs}
 use Rattle.list_versions.proofs.write_run.Statement.{statement}

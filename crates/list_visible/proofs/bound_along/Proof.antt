@@ -1,6 +1,6 @@
 -- `list_visible::bound_along` meets its contract: what is left of the walk gives what the whole walk gives. Assumes nothing.
 use Rattle.list_visible.proofs.Bounding.{bound-broken, bound-go, leaf-more}
-use Rattle.list_visible.specs.Fast.{lookBound, startBound, toldBound, boundAlong}
+use Rattle.list_visible.specs.Steps.Fast.{lookBound, startBound, toldBound, boundAlong}
 use Rattle.tree.specs.Chain.{along}
 use Rattle.tree.proofs.Ways.{along-again, along-unused, along-bad, along-end, along-on}
 use native.Mathlib.Omega.{arith}

@@ -1,7 +1,7 @@
 -- `list_visible::bound_in_leaf` meets its contract: the walk that is left gives what the whole walk gives. Assumes nothing.
 use Rattle.list_visible.proofs.Bounding.{bound-step}
-use Rattle.list_visible.specs.Fast.{boundCell, boundLeaf}
-use Rattle.list_visible.specs.declared.Bounded.{Bounded}
+use Rattle.list_visible.specs.Steps.Fast.{boundCell, boundLeaf}
+use Rattle.list_visible.specs.declared.ChainBound.{ChainBound}
 use Rattle.leaf.proofs.Finding.{loop-type, loop-bad, loop-done}
 use Rattle.leaf.proofs.Walking.{walk, walk-stuck, walk-on, walk-done, stepped}
 use native.Mathlib.Omega.{arith}
@@ -25,7 +25,7 @@ structural-fault-requires c κs = search needs
 
 returns : tie.Need-returns Inv-loop μ-loop
 unfolding boundLeaf
-returns c = loop-type (λ e b l. Bounded.Ok b) (λ f. Bounded.Bad f) boundCell _ 0 _ _ (λ e. omega arith) (c .structural-fault .ensures)
+returns c = loop-type (λ e b l. ChainBound.Ok b) (λ f. ChainBound.Bad f) boundCell _ 0 _ _ (λ e. omega arith) (c .structural-fault .ensures)
 
 get-cell-count-requires : tie.Need-get-cell-count-requires Inv-loop μ-loop
 get-cell-count-requires c κs = search needs
@@ -44,7 +44,7 @@ fault-at-requires c κs = search needs
 
 returns-2 : tie.Need-returns-2 Inv-loop μ-loop
 unfolding boundLeaf
-returns-2 c = loop-bad (λ e b l. Bounded.Ok b) (λ f. Bounded.Bad f) boundCell _ 0 _ _ (omega arith) (c .before .before .before .before .before .get-cell-count .ensures) (sym (walk-stuck boundCell _ _ _ _ _ _ (c .before .before .next-end .ensures) _ (c .before .before .before .loop-test .taken) (c .before .if2 .taken) (c .fault-at .ensures)) ∙ c .before .before .before .before .loop .inv .1)
+returns-2 c = loop-bad (λ e b l. ChainBound.Ok b) (λ f. ChainBound.Bad f) boundCell _ 0 _ _ (omega arith) (c .before .before .before .before .before .get-cell-count .ensures) (sym (walk-stuck boundCell _ _ _ _ _ _ (c .before .before .next-end .ensures) _ (c .before .before .before .loop-test .taken) (c .before .if2 .taken) (c .fault-at .ensures)) ∙ c .before .before .before .before .loop .inv .1)
 
 get-rank-requires : tie.Need-get-rank-requires Inv-loop μ-loop
 get-rank-requires c κs = let h = stepped _ 0 _ _ _ (c .before .next-end .ensures) (c .if2 .left) in omega (arith, h .low, h .inside)
@@ -72,7 +72,7 @@ loop-again c = let h = stepped _ 0 _ _ _ (c .before .before .before .before .bef
 
 returns-3 : tie.Need-returns-3 Inv-loop μ-loop
 unfolding boundLeaf
-returns-3 c = loop-done (λ e b l. Bounded.Ok b) (λ f. Bounded.Bad f) boundCell _ 0 _ _ (omega arith) (c .before .before .get-cell-count .ensures) (sym (walk-done boundCell _ _ _ _ _ _ _ (c .loop-test .left)) ∙ c .before .loop .inv .1)
+returns-3 c = loop-done (λ e b l. ChainBound.Ok b) (λ f. ChainBound.Bad f) boundCell _ 0 _ _ (omega arith) (c .before .before .get-cell-count .ensures) (sym (walk-done boundCell _ _ _ _ _ _ _ (c .loop-test .left)) ∙ c .before .loop .inv .1)
 
 pub bound-in-leaf-spec : {M : Type 1} → statement M
 bound-in-leaf-spec =

@@ -17,13 +17,13 @@ list-visible-requires : tie.Need-list-visible-requires
 list-visible-requires c κs = search needs
 
 returns : tie.Need-returns
-returns c = tree-bad _ _ _ _ _ _ _ _ (c .before .before .before .descend .ensures) (c .before .f .given .1)
+returns c = tree-bad _ _ _ _ _ _ (c .before .before .before .descend .ensures) (c .before .f .given .1)
 
 same-length : tie.Need-same-length
 same-length c = search needs
 
 returns-2 : tie.Need-returns-2
-returns-2 c = tree-leaf _ _ _ _ _ _ _ _ (c .before .before .before .before .before .before .before .descend .ensures) (c .before .before .before .before .before .p .given .1) (c .before .before .list-visible .ensures)
+returns-2 c = tree-leaf _ _ _ _ _ _ (c .before .before .before .before .before .before .before .descend .ensures) (c .before .before .before .before .before .p .given .1) (c .before .before .list-visible .ensures)
 
 pub scan-tree-spec : {M : Type 1} → statement M
 scan-tree-spec =

@@ -13,7 +13,7 @@ is-current-requires : tie.Need-is-current-requires
 is-current-requires c κs = search needs
 
 returns : tie.Need-returns
-returns c = hidden-own _ _ _ _ _ _ (c .before .before .before .stamp .given .1) (sym (c .before .is-current .ensures) ∙ c .if1 .taken)
+returns c = hidden-own _ _ _ _ (c .before .before .before .stamp .given .1) (sym (c .before .is-current .ensures) ∙ c .if1 .taken)
 
 state-beside-requires : tie.Need-state-beside-requires
 state-beside-requires c κs = search needs
@@ -28,7 +28,7 @@ returns-2 : tie.Need-returns-2
 returns-2 c =
     let at = c .before .before .before in
     c .finished-with .ensures
-    ∙ hidden-else _ _ _ _ _ _ (at .before .before .stamp .given .1) (sym (at .is-current .ensures) ∙ c .before .before .if1 .left) _ (c .before .state-beside .ensures)
+    ∙ hidden-else _ _ _ _ (at .before .before .stamp .given .1) (sym (at .is-current .ensures) ∙ c .before .before .if1 .left) _ (c .before .state-beside .ensures)
 
 returns-3 : tie.Need-returns-3
 returns-3 c = of-absent _ _ (search needs)

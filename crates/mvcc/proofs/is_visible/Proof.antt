@@ -11,7 +11,7 @@ status-of-requires : tie.Need-status-of-requires
 status-of-requires c κs = search needs
 
 returns : tie.Need-returns
-returns c = unseen-aborted _ _ _ _ _ _ _ (c .before .status-of .ensures) (search needs)
+returns c = unseen-aborted _ _ _ _ _ (c .before .status-of .ensures) (search needs)
 
 is-current-requires : tie.Need-is-current-requires
 is-current-requires c κs = search needs
@@ -22,7 +22,7 @@ own-stamp-requires c κs = search needs
 returns-2 : tie.Need-returns-2
 returns-2 c =
     let at = c .before .before in
-    ap not (c .own-stamp .ensures) ∙ seen-own _ _ _ _ _ _ _ (at .before .before .status-of .ensures) (search needs) (sym (at .is-current .ensures) ∙ c .before .if2 .taken)
+    ap not (c .own-stamp .ensures) ∙ seen-own _ _ _ _ _ (at .before .before .status-of .ensures) (search needs) (sym (at .is-current .ensures) ∙ c .before .if2 .taken)
 
 finished-with-requires : tie.Need-finished-with-requires
 finished-with-requires c κs = search needs
@@ -34,12 +34,12 @@ returns-3 : tie.Need-returns-3
 returns-3 c =
     let at = c .before .before .before .before in
     ap not (c .hides .ensures)
-    ∙ seen-else _ _ _ _ _ _ _ (at .before .before .status-of .ensures) (search needs) (sym (at .is-current .ensures) ∙ c .before .before .before .if2 .left) (sym (c .before .before .finished-with .ensures) ∙ c .before .if3 .taken)
+    ∙ seen-else _ _ _ _ _ (at .before .before .status-of .ensures) (search needs) (sym (at .is-current .ensures) ∙ c .before .before .before .if2 .left) (sym (c .before .before .finished-with .ensures) ∙ c .before .if3 .taken)
 
 returns-4 : tie.Need-returns-4
 returns-4 c =
     let at = c .before .before .before in
-    unseen-unfinished _ _ _ _ _ _ _ (at .before .before .status-of .ensures) (search needs) (sym (at .is-current .ensures) ∙ c .before .before .if2 .left) (sym (c .before .finished-with .ensures) ∙ c .if3 .left)
+    unseen-unfinished _ _ _ _ _ (at .before .before .status-of .ensures) (search needs) (sym (at .is-current .ensures) ∙ c .before .before .if2 .left) (sym (c .before .finished-with .ensures) ∙ c .if3 .left)
 
 pub is-visible-spec : {M : Type 1} → statement M
 is-visible-spec =

@@ -10,7 +10,7 @@ intrudes-requires : tie.Need-intrudes-requires
 intrudes-requires c κs = search needs
 
 returns : tie.Need-returns
-returns c = c .intrudes .ensures ∙ conflict-other _ _ _ _ _ _ (search needs)
+returns c = c .intrudes .ensures ∙ conflict-other _ _ _ _ (search needs)
 
 enum-known-stamp : tie.Need-enum-known-stamp
 enum-known-stamp c = search needs
@@ -22,10 +22,10 @@ enum-told : tie.Need-enum-told
 enum-told c = search needs
 
 returns-2 : tie.Need-returns-2
-returns-2 c = conflict-stamped _ _ _ _ _ _ (search needs) _ (c .before .before .stamp .given .1) (search needs)
+returns-2 c = conflict-stamped _ _ _ _ (search needs) _ (c .before .before .stamp .given .1) (search needs)
 
 returns-3 : tie.Need-returns-3
-returns-3 c = conflict-live _ _ _ _ _ _ (search needs) (search needs)
+returns-3 c = conflict-live _ _ _ _ (search needs) (search needs)
 
 pub version-conflicts-spec : {M : Type 1} → statement M
 version-conflicts-spec =

@@ -38,9 +38,10 @@ use denote.Triple.Spec.{Meets, tripleOf}
 use denote.Triple.Table.{entered}
 use denote.Triple.Walked.{says, Stays, stay-none-slice, walkOf, Walks, ends-at, walked, goes-none-slice, walk-meets}
 use denote.Exit.{yes}
-use Rattle.mvcc.specs.Lists.{goodStatuses}
+use Rattle.mvcc.specs.Snapshot.{goodStatuses, statuses}
 use Rattle.mvcc_entries.specs.declared.Entry.{Entry}
-use Rattle.mvcc_entries.specs.Entries.{none, txs, sts}
+use Rattle.mvcc_entries.specs.Steps.Entries.{none}
+use Rattle.mvcc_entries.specs.Entries.{txs, sts}
 use Rattle.mvcc_entries.proofs.Judging.{Judging, start, more, all, judged-long, Nearer, Nearer-wf}
 use Rattle.mvcc_entries.proofs.Walks.{word, slice, tail, big-lit}
 use Rattle.mvcc_entries.proofs.Entry as T
@@ -74,7 +75,7 @@ module _ {M : Type 1} (𝓤 : URA M) (H : Heap 𝓤) (A : Atoms 𝓤) (W : Given
   abbrev Kept : List (Item 𝓤)
   Kept = ‵ (ShrSlice (named 0) κ T.the-row .own (x .0) (at .0)) ∷ ‵ (flft κ q) ∷ []
 
-  exits : (r : Bool) → r ≡ goodStatuses (txs ys) (sts ys) → ent 𝓤 (⋆ 𝓤 H A Kept) (Post (vbool r))
+  exits : (r : Bool) → r ≡ goodStatuses (statuses (txs ys) (sts ys)) → ent 𝓤 (⋆ 𝓤 H A Kept) (Post (vbool r))
   exits r e =
       qed W Kept ∵ move ! (1 ∷ 0 ∷ []) $
       suffices ! _ (ends-at 𝓤 H A f.ended stayed (f.clauses 𝓤 H A mem run) W bound (vbool r) r (tt, tt) (tt, tt)) $ says ! e $

@@ -38,7 +38,7 @@ use denote.Triple.Table.{entered}
 use denote.Triple.Walked.{says, needs, Stays, stay-none-slice, stay-none, walkOf, Walks, ends-at, walked, goes-none-slice, goes-none, walk-meets}
 use denote.Exit.{yes}
 use Rattle.mvcc_entries.specs.declared.Entry.{Entry}
-use Rattle.mvcc_entries.specs.Entries.{none}
+use Rattle.mvcc_entries.specs.Steps.Entries.{none}
 use Rattle.mvcc_entries.proofs.Entry as T
 use Rattle.mvcc_entries.proofs.Entry.Laws as T′
 use Rattle.mvcc_entries.proofs.entry_at.Key.{name as #mvcc-entries·entry-at}

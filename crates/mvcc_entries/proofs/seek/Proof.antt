@@ -40,8 +40,10 @@ use denote.Triple.Table.{entered}
 use denote.Triple.Walked.{says, needs, Stays, stay-none-slice, stay-none, walkOf, Walks, ends-at, walked, goes-none-slice, goes-none, walk-meets}
 use denote.Exit.{yes}
 use Rattle.mvcc_entries.specs.declared.Entry.{Entry}
-use Rattle.mvcc.specs.Lists.{rising, below}
-use Rattle.mvcc_entries.specs.Entries.{none, txs}
+use Rattle.mvcc.specs.Lists.{rising}
+use Rattle.mvcc.specs.Steps.Lists.{below}
+use Rattle.mvcc_entries.specs.Steps.Entries.{none}
+use Rattle.mvcc_entries.specs.Entries.{txs}
 use Rattle.mvcc_entries.proofs.Spans.{Span, mid, mid-in, start, up, down, Nearer, Nearer-wf}
 use Rattle.mvcc_entries.proofs.Walks.{word, slice, tail}
 use Rattle.mvcc_entries.proofs.Entry as T

@@ -40,9 +40,12 @@ use denote.Triple.Table.{entered, cited}
 use denote.Triple.Walked.{says, needs, Stays, stay-none-slice, stay-none, walkOf, goes-none-slice, goes-none, Walks, ends-at, walked, walk-meets}
 use denote.Triple.Clauses.{ensured, lasts}
 use denote.Exit.{yes}
-use Rattle.mvcc.specs.Lists.{rising, below, lookup}
+use Rattle.mvcc.specs.Lists.{rising}
+use Rattle.mvcc.specs.Steps.Lists.{below}
+use Rattle.mvcc.specs.Snapshot.{lookup, statuses}
 use Rattle.mvcc_entries.specs.declared.Entry.{Entry}
-use Rattle.mvcc_entries.specs.Entries.{none, txs, sts}
+use Rattle.mvcc_entries.specs.Steps.Entries.{none}
+use Rattle.mvcc_entries.specs.Entries.{txs, sts}
 use Rattle.mvcc_entries.proofs.Laws.{past, here}
 use Rattle.mvcc_entries.proofs.Walks.{slice, headOr}
 use Rattle.mvcc_entries.proofs.Entry as T
@@ -134,12 +137,12 @@ module _ {M : Type 1} (𝓤 : URA M) (H : Heap 𝓤) (A : Atoms 𝓤) (W : Given
       nothing ! $ join ! $ frame ! $ done !
 
   abbrev single : Entry → ℕ
-  single e = lookup (e .tx ∷ []) (e .state ∷ []) t
+  single e = lookup (statuses (e .tx ∷ []) (e .state ∷ [])) t
 
   settled-said : (e : Entry) (r : ℕ) → ent 𝓤 (ensured 𝓤 H A settled.ended (settled.clauses 𝓤 H A mem run) tt (e, (t, tt)) tt r) (fact 𝓤 (r ≡ single e))
   settled-said e r = exE 𝓤 _ (λ ws. snd∗ 𝓤 (sem 𝓤 H A (lasts settled.ended tt (e, (t, tt)) ws)) (fact 𝓤 (r ≡ single e)))
 
-  exits : (r : ℕ) (u : Val) → r ≡ lookup (txs (now s)) (sts (now s)) t → ent 𝓤 (⋆ 𝓤 H A (‵ (u8 .own r (u ∷ [])) ∷ Tok ∷ ‵ Own ∷ [])) (Post u)
+  exits : (r : ℕ) (u : Val) → r ≡ lookup (statuses (txs (now s)) (sts (now s))) t → ent 𝓤 (⋆ 𝓤 H A (‵ (u8 .own r (u ∷ [])) ∷ Tok ∷ ‵ Own ∷ [])) (Post u)
   exits r u e =
       qed W (‵ (u8 .own r (u ∷ [])) ∷ Tok ∷ ‵ Own ∷ []) ∵
       suffices ! _ (ends-at 𝓤 H A f.ended stayed (f.clauses 𝓤 H A mem run) W bound u r (tt, (tt, tt)) (tt, (tt, tt))) $ says ! e $

@@ -38,10 +38,11 @@ use denote.Triple.Table.{entered, cited}
 use denote.Triple.Walked.{says, Stays, stay-none-slice, stay-none, walkOf, goes-none-slice, goes-none, Walks, ends-at, walked, walk-meets}
 use denote.Triple.Clauses.{ensured, lasts}
 use denote.Exit.{yes}
-use Rattle.mvcc.specs.Lists.{rising, lookup, goodStatuses}
-use Rattle.mvcc.proofs.Laws.{good-statuses-judged}
+use Rattle.mvcc.specs.Lists.{rising}
+use Rattle.mvcc.specs.Snapshot.{lookup, goodStatuses, statuses}
 use Rattle.mvcc_entries.specs.declared.Entry.{Entry}
 use Rattle.mvcc_entries.specs.Entries.{txs, sts, statusCall}
+use Rattle.mvcc.proofs.Laws.{good-statuses-judged}
 use Rattle.mvcc_entries.proofs.Laws.{status-good, status-bad}
 use Rattle.mvcc_entries.proofs.Walks.{slice, headOr, Good, to-good, goes-good, good-said}
 use Rattle.mvcc_entries.proofs.Entry as T
@@ -87,7 +88,7 @@ module _ {M : Type 1} (𝓤 : URA M) (H : Heap 𝓤) (A : Atoms 𝓤) (W : Given
   Tok = ‵ (flft κ q) ⊛ ‵ ftrue
 
   abbrev judged : Bool
-  judged = goodStatuses (txs (now s)) (sts (now s))
+  judged = goodStatuses (statuses (txs (now s)) (sts (now s)))
 
   -- the call of `state_of`
   abbrev to-state : StateOf 𝓤 H A mem run .Ghost
@@ -100,7 +101,7 @@ module _ {M : Type 1} (𝓤 : URA M) (H : Heap 𝓤) (A : Atoms 𝓤) (W : Given
       use2 W (raw (StateOf 𝓤 H A mem run .pre to-state)) (qed W (Tok ∷ ‵ (owns (ShrSlice (named 0) κ T.the-row ∷ u64 ∷ []) (s, (t, tt)) (v ∷ [], (vint w64 t ∷ [], tt))) ∷ []) ∵ says ! rises $ frame ! $ done !) $ frame ! $ done !
 
   abbrev found : ℕ
-  found = lookup (txs (now s)) (sts (now s)) t
+  found = lookup (statuses (txs (now s)) (sts (now s))) t
 
   state-said : (r : ℕ) → ent 𝓤 (ensured 𝓤 H A state-of.ended (state-of.clauses 𝓤 H A mem run) (κ, tt) (s, (t, tt)) tt r) (fact 𝓤 (r ≡ found))
   state-said r = exE 𝓤 _ (λ ws. snd∗ 𝓤 (sem 𝓤 H A (lasts state-of.ended (κ, tt) (s, (t, tt)) ws)) (fact 𝓤 (r ≡ found)))
@@ -130,7 +131,7 @@ module _ {M : Type 1} (𝓤 : URA M) (H : Heap 𝓤) (A : Atoms 𝓤) (W : Given
         first ! $ branches ! (load ! (from ! (stop !)) (look ! 2 refl))
         (λ yes.
         let g : judged ≡ true = sym e₁ ∙ is-true r yes in
-        move ! (1 ∷ 0 ∷ []) $ use2 W (raw (StateOf 𝓤 H A mem run .pre to-state) ⊛ ‵ Own) (goes-state (good-statuses-judged _ _ g .rises)) $ split ! $
+        move ! (1 ∷ 0 ∷ []) $ use2 W (raw (StateOf 𝓤 H A mem run .pre to-state) ⊛ ‵ Own) (goes-state (good-statuses-judged _ g .rises)) $ split ! $
         calls-at ! fm (StateOf 𝓤 H A mem run) known-state to-state (and-then ! (load ! (from ! (stop !)) (look ! 6 refl)) (and-then ! (load ! (from ! (stop !)) (look ! 4 refl)) (no-more !))) (λ z.
         use1 W (later (some (λ (w : ℕ). (Tok ⊛ ‵ (u8 .own w (z ∷ []))) ⊛ raw (ensured 𝓤 H A state-of.ended (state-of.clauses 𝓤 H A mem run) (κ, tt) (s, (t, tt)) tt w)))) (id⊢ 𝓤 _) $ await ! tt $ pick ! (λ w.
         split ! $ move ! (1 ∷ []) $ use1 W (raw (fact 𝓤 (w ≡ found))) (state-said w) $ heard ! (w ≡ found) (λ e₂. split ! $ move ! (1 ∷ []) $

@@ -42,7 +42,7 @@ use denote.Triple.Walked.{says, Stays, stay-none-slice, gave-slice, walkOf, goes
 use denote.Triple.Clauses.{ensured, lasts}
 use denote.Exit.{yes}
 use Rattle.store.specs.Part.{put}
-use Rattle.mvcc.specs.Lists.{goodStatuses}
+use Rattle.mvcc.specs.Snapshot.{goodStatuses, statuses}
 use Rattle.mvcc_entries.specs.declared.Entry.{Entry}
 use Rattle.mvcc_entries.specs.Entries.{txs, sts, roomCode, unpackCode, Unpacked}
 use Rattle.mvcc_entries.proofs.Laws.{unpack-code, unpacked-fits, unpacked-done, unpacked-refused}
@@ -132,7 +132,7 @@ module _ {M : Type 1} (𝓤 : URA M) (H : Heap 𝓤) (A : Atoms 𝓤) (W : Given
   Toks₂ = ‵ (flft κ₀ q₀) ⊛ (‵ (flft κ₂ q₂) ⊛ ‵ ftrue)
 
   abbrev judged : Bool
-  judged = goodStatuses (txs (now s)) (sts (now s))
+  judged = goodStatuses (statuses (txs (now s)) (sts (now s)))
 
   -- the call of `room_code`, with the judgement r
   abbrev asked : Bool → Bool × (ℕ × (ℕ × (ℕ × Unit {0})))

@@ -7,15 +7,15 @@ use Rattle.port.proofs.erbulonge_all_versions.Tie as tie
 all-versions-requires : tie.Need-all-versions-requires
 all-versions-requires c κs = search needs
 
-give-listed-requires : tie.Need-give-listed-requires
-give-listed-requires c κs = search needs
+give-counted-requires : tie.Need-give-counted-requires
+give-counted-requires c κs = search needs
 
 same-length : tie.Need-same-length
 same-length c = search needs
 
 returns : tie.Need-returns
-returns c = passed-list _ (c .give-listed .ensures) (c .before .before .before .all-versions .ensures)
+returns c = passed-list _ (c .give-counted .ensures) (c .before .before .before .all-versions .ensures)
 
 pub erbulonge-all-versions-spec : {M : Type 1} → statement M
 erbulonge-all-versions-spec =
-    tie.close (tie.spec all-versions-requires give-listed-requires same-length returns)
+    tie.close (tie.spec all-versions-requires give-counted-requires same-length returns)

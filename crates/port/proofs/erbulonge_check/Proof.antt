@@ -8,11 +8,11 @@ use Rattle.port.proofs.erbulonge_check.Tie as tie
 check-requires : tie.Need-check-requires
 check-requires c κs = search needs
 
-give-told-requires : tie.Need-give-told-requires
-give-told-requires c κs = search needs
+give-yes-no-requires : tie.Need-give-yes-no-requires
+give-yes-no-requires c κs = search needs
 
 returns : tie.Need-returns
-returns c = passed flagWords _ (c .give-told .ensures) (c .before .check .ensures)
+returns c = passed flagWords _ (c .give-yes-no .ensures) (c .before .check .ensures)
 
 pub erbulonge-check-spec : {M : Type 1} → statement M
-erbulonge-check-spec = tie.close (tie.spec check-requires give-told-requires returns)
+erbulonge-check-spec = tie.close (tie.spec check-requires give-yes-no-requires returns)

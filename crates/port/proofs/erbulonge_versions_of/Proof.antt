@@ -10,15 +10,15 @@ use Rattle.port.proofs.erbulonge_versions_of.Tie as tie
 versions-of-requires : tie.Need-versions-of-requires
 versions-of-requires c κs = search needs
 
-give-listed-requires : tie.Need-give-listed-requires
-give-listed-requires c κs = search needs
+give-counted-requires : tie.Need-give-counted-requires
+give-counted-requires c κs = search needs
 
 same-length : tie.Need-same-length
 same-length c = search needs
 
 returns : tie.Need-returns
-returns c = passed-list _ (c .give-listed .ensures) (c .before .before .before .versions-of .ensures ∙ versions-asked _ _ _ (ap rankOf (toZ-ofZ (c .before .before .before .before .before .before .before .before .fits .key))))
+returns c = passed-list _ (c .give-counted .ensures) (c .before .before .before .versions-of .ensures ∙ versions-asked _ _ _ (ap rankOf (toZ-ofZ (c .before .before .before .before .before .before .before .before .fits .key))))
 
 pub erbulonge-versions-of-spec : {M : Type 1} → statement M
 erbulonge-versions-of-spec =
-    tie.close (tie.spec versions-of-requires give-listed-requires same-length returns)
+    tie.close (tie.spec versions-of-requires give-counted-requires same-length returns)

@@ -2,17 +2,17 @@
 use Rattle.tree.proofs.Ways.{along-again, along-unused, along-bad, along-last, along-end, along-on, best-broken, best-stop, best-go}
 use Rattle.tree.specs.Chain.{along, lookBest, toldBest, bestAlong}
 use Rattle.leaf.specs.declared.find.Best.{Best}
-use Rattle.mvcc.specs.Lists.{lookup}
+use Rattle.mvcc.specs.Snapshot.{lookup, snapshot, statuses}
 use mathlib.Core.Path.{_≡_, refl, ap, _∙_}
 use borrow.Author.Needs.{needs}
 use Rattle.tree.proofs.best_along.Statement.{statement}
 use Rattle.tree.proofs.best_along.Tie as tie
 
 abbrev Inv-loop : tie.InvT-loop
-Inv-loop pool ids states active xmax cur used key first p₀ best₀ left₀ p best left = along (lookBest (lookup ids states) active xmax cur key) used left best p pool ≡ along (lookBest (lookup ids states) active xmax cur key) used used Best.Nothing first pool
+Inv-loop pool used first key xmax active cur ids states p₀ best₀ left₀ p best left = along (lookBest key (snapshot xmax active cur) (lookup (statuses ids states))) used left best p pool ≡ along (lookBest key (snapshot xmax active cur) (lookup (statuses ids states))) used used Best.Nothing first pool
 
 abbrev μ-loop : tie.MeasureT-loop
-μ-loop pool ids states active xmax cur used key first p₀ best₀ left₀ p best left = left
+μ-loop pool used first key xmax active cur ids states p₀ best₀ left₀ p best left = left
 
 loop-holds : tie.Need-loop-holds Inv-loop μ-loop
 loop-holds c = refl

@@ -1,18 +1,18 @@
 -- `tree::test_along` meets its contract: what is left of the walk gives what the whole walk gives. Assumes nothing.
 use Rattle.tree.proofs.Ways.{along-again, along-unused, along-bad, along-last, along-end, along-on, test-broken, test-stop, test-go}
 use Rattle.tree.specs.Chain.{along, lookTest, toldTest, testAlong}
+use Rattle.mvcc.specs.Snapshot.{lookup, snapshot, statuses}
 use mathlib.Core.Bool.{false}
-use Rattle.mvcc.specs.Lists.{lookup}
 use mathlib.Core.Path.{_≡_, refl, ap, _∙_}
 use borrow.Author.Needs.{needs}
 use Rattle.tree.proofs.test_along.Statement.{statement}
 use Rattle.tree.proofs.test_along.Tie as tie
 
 abbrev Inv-loop : tie.InvT-loop
-Inv-loop pool claiming ids states active xmax cur used seen key first p₀ found₀ left₀ p found left = along (lookTest claiming (lookup ids states) active xmax cur seen key) used left found p pool ≡ along (lookTest claiming (lookup ids states) active xmax cur seen key) used used false first pool
+Inv-loop pool used first key xmax active cur ids states claiming seen p₀ found₀ left₀ p found left = along (lookTest key (snapshot xmax active cur) (lookup (statuses ids states)) claiming seen) used left found p pool ≡ along (lookTest key (snapshot xmax active cur) (lookup (statuses ids states)) claiming seen) used used false first pool
 
 abbrev μ-loop : tie.MeasureT-loop
-μ-loop pool claiming ids states active xmax cur used seen key first p₀ found₀ left₀ p found left = left
+μ-loop pool used first key xmax active cur ids states claiming seen p₀ found₀ left₀ p found left = left
 
 loop-holds : tie.Need-loop-holds Inv-loop μ-loop
 loop-holds c = refl

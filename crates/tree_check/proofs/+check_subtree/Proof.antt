@@ -2,7 +2,7 @@
 -- left say what all of them say. Assumes nothing.
 use mathlib.Core.Path.{_≡_, sym, _∙_}
 use native.Mathlib.Omega.{arith}
-use Rattle.tree_check.specs.Check.{kidsOf, checkOf}
+use Rattle.tree_check.specs.Steps.Check.{kidsOf, checkOf}
 use Rattle.tree_check.proofs.Checking.{inner-there, check-last, check-stray, check-kids, kids-end, kids-ill, kids-zero, kids-on}
 use borrow.Author.Needs.{needs}
 use Prim.Native.Nat.{ℕ, _-_, _≤_, _<_}

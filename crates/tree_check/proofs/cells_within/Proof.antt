@@ -4,9 +4,9 @@ use mathlib.Core.Bool.{Bool, true, false, _&&_}
 use Prim.Native.Nat.{ℕ, _≤_}
 use native.Mathlib.Omega.{arith}
 use Rattle.row.specs.declared.Cell.{Cell}
+use Rattle.tree_check.specs.Check.{within, cellsWithin}
 use Rattle.leaf.proofs.Finding.{loop-type, loop-bad, loop-done}
 use Rattle.leaf.proofs.Walking.{walk, walk-stuck, walk-on, walk-done, stepped}
-use Rattle.tree_check.specs.Check.{within, cellsWithin}
 use borrow.Author.Needs.{needs}
 use Rattle.tree_check.proofs.cells_within.Statement.{statement}
 use Rattle.tree_check.proofs.cells_within.Tie as tie

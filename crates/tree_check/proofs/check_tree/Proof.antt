@@ -3,7 +3,8 @@
 use mathlib.Core.Path.{_≡_, ap, _∙_}
 use Prim.Native.Nat.{_+_, _-_, _≤_}
 use native.Mathlib.Omega.{arith}
-use Rattle.tree_check.specs.Check.{wellFormed, isFirst}
+use Rattle.tree_check.specs.Check.{isWellFormed}
+use Rattle.tree_check.specs.Steps.Check.{isFirst}
 use Rattle.tree_check.proofs.Linking.{check-is-well}
 use Rattle.tree_check.proofs.Checking.{wellFrom, well-all, well-none, well-here, well-on}
 use borrow.Author.Needs.{needs}
@@ -11,7 +12,7 @@ use Rattle.tree_check.proofs.check_tree.Statement.{statement}
 use Rattle.tree_check.proofs.check_tree.Tie as tie
 
 abbrev Inv-loop : tie.InvT-loop
-Inv-loop pool used root below₀ below = (below ≤ 4) × (wellFrom (4 - below) below used root pool ≡ wellFormed used root pool)
+Inv-loop pool used root below₀ below = (below ≤ 4) × (wellFrom (4 - below) below used root pool ≡ isWellFormed used root pool)
 
 abbrev μ-loop : tie.MeasureT-loop
 μ-loop pool used root below₀ below = 4 - below

@@ -4,19 +4,19 @@ use mathlib.Core.Path.{_≡_, refl, ap, _∙_}
 use Prim.Native.Nat.{_+_, _*_, _≤_}
 use native.Mathlib.Omega.{arith}
 use Rattle.tree.specs.Chain.{along}
-use Rattle.tree.proofs.Ways.{along-again, along-unused, along-bad, along-last, along-end, along-on}
 use Rattle.call_clean.specs.Remove.{lookRun, toldCount, countAlong}
+use Rattle.tree.proofs.Ways.{along-again, along-unused, along-bad, along-last, along-end, along-on}
 use Rattle.call_clean.proofs.Counting.{run-is, run-broken, run-stop, run-go}
 use borrow.Author.Needs.{needs}
 use Rattle.call_clean.proofs.remove.count_along.Statement.{statement}
 use Rattle.call_clean.proofs.remove.count_along.Tie as tie
 
 abbrev Inv-loop : tie.InvT-loop
-Inv-loop pool used key first p₀ count₀ left₀ p count left =
+Inv-loop pool used first key p₀ count₀ left₀ p count left =
     (along (lookRun key) used left count p pool ≡ along (lookRun key) used used 0 first pool) × (count + 65535 * left ≤ 65535 * used)
 
 abbrev μ-loop : tie.MeasureT-loop
-μ-loop pool used key first p₀ count₀ left₀ p count left = left
+μ-loop pool used first key p₀ count₀ left₀ p count left = left
 
 loop-holds : tie.Need-loop-holds Inv-loop μ-loop
 loop-holds c = (refl, omega arith)

@@ -11,10 +11,10 @@ use Rattle.call_clean.proofs.remove.remove_along.Statement.{statement}
 use Rattle.call_clean.proofs.remove.remove_along.Tie as tie
 
 abbrev Inv-loop : tie.InvT-loop
-Inv-loop pool₀ used key first p₀ left₀ pool p left = (length pool ≡ length pool₀) × (removedAlong used left key p pool ≡ removedAlong used used key first pool₀)
+Inv-loop pool₀ used first key p₀ left₀ pool p left = (length pool ≡ length pool₀) × (removedAlong pool used p key left ≡ removedAlong pool₀ used first key used)
 
 abbrev μ-loop : tie.MeasureT-loop
-μ-loop pool₀ used key first p₀ left₀ pool p left = left
+μ-loop pool₀ used first key p₀ left₀ pool p left = left
 
 loop-holds : tie.Need-loop-holds Inv-loop μ-loop
 loop-holds c = (refl, refl)

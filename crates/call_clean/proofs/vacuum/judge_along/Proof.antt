@@ -1,8 +1,8 @@
 -- `call_clean::vacuum::judge_along` meets its contract: what is left of the walk gives what the whole walk gives. Assumes nothing.
 use mathlib.Core.Path.{_≡_, refl, ap, _∙_}
 use Rattle.tree.specs.Chain.{along}
-use Rattle.tree.proofs.Ways.{along-again, along-unused, along-bad, along-end, along-on}
 use Rattle.call_clean.specs.Vacuum.{lookLeaf, toldJudged, judgedAlong}
+use Rattle.tree.proofs.Ways.{along-again, along-unused, along-bad, along-end, along-on}
 use Rattle.call_clean.proofs.Counting.{leaf-broken, leaf-go}
 use borrow.Author.Needs.{needs}
 use Rattle.call_clean.proofs.vacuum.judge_along.Statement.{statement}

@@ -5,9 +5,9 @@ use Prim.Native.Nat.{_+_, _*_, _≤_}
 use native.Mathlib.Omega.{arith}
 use lib.ListN.{length}
 use Rattle.page.proofs.PageLaws.{lent-page}
-use Rattle.mvcc.specs.Lists.{lookup}
-use Rattle.leaf.proofs.Choosing.{any-page}
+use Rattle.mvcc.specs.Snapshot.{lookup, statuses}
 use Rattle.call_clean.specs.Vacuum.{vacuumedAlong}
+use Rattle.leaf.proofs.Choosing.{any-page}
 use Rattle.call_clean.proofs.Counting.{sweep-few}
 use Rattle.call_clean.proofs.Storing.{page-made, vacuum-none, vacuum-unused, vacuum-bad, vacuum-end, vacuum-on}
 use borrow.Author.Needs.{needs}
@@ -15,13 +15,13 @@ use Rattle.call_clean.proofs.vacuum.vacuum_along.Statement.{statement}
 use Rattle.call_clean.proofs.vacuum.vacuum_along.Tie as tie
 
 abbrev Inv-loop : tie.InvT-loop
-Inv-loop pool₀ ids states bound used first p₀ dropped₀ left₀ pool p dropped left =
+Inv-loop pool₀ used first ids states bound p₀ dropped₀ left₀ pool p dropped left =
     (length pool ≡ length pool₀)
     × (dropped + 65535 * left ≤ 65535 * used)
-    × (vacuumedAlong (lookup ids states) bound used left dropped p pool ≡ vacuumedAlong (lookup ids states) bound used used 0 first pool₀)
+    × (vacuumedAlong pool used p (lookup (statuses ids states)) bound left dropped ≡ vacuumedAlong pool₀ used first (lookup (statuses ids states)) bound used 0)
 
 abbrev μ-loop : tie.MeasureT-loop
-μ-loop pool₀ ids states bound used first p₀ dropped₀ left₀ pool p dropped left = left
+μ-loop pool₀ used first ids states bound p₀ dropped₀ left₀ pool p dropped left = left
 
 loop-holds : tie.Need-loop-holds Inv-loop μ-loop
 loop-holds c = (refl, omega arith, refl)

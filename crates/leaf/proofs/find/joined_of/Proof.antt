@@ -5,22 +5,22 @@ use Rattle.leaf.proofs.find.joined_of.Statement.{statement}
 use Rattle.leaf.proofs.find.joined_of.Tie as tie
 
 returns : tie.Need-returns
-returns c = joined-found _ _ _ _ _ _ _ _ _ (search needs)
+returns c = joined-found _ _ _ _ _ _ _ (search needs)
 
 returns-2 : tie.Need-returns-2
-returns-2 c = joined-other _ _ _ _ _ _ _ _ _ (search needs) (search needs)
+returns-2 c = joined-other _ _ _ _ _ _ _ (search needs) (search needs)
 
 claim-conflicts-requires : tie.Need-claim-conflicts-requires
 claim-conflicts-requires c κs = search needs
 
 returns-3 : tie.Need-returns-3
-returns-3 c = joined-claim _ _ _ _ _ _ _ _ _ (search needs) (search needs) (search needs) (c .claim-conflicts .ensures)
+returns-3 c = joined-claim _ _ _ _ _ _ _ (search needs) (search needs) (search needs) (c .claim-conflicts .ensures)
 
 version-conflicts-requires : tie.Need-version-conflicts-requires
 version-conflicts-requires c κs = search needs
 
 returns-4 : tie.Need-returns-4
-returns-4 c = joined-ported _ _ _ _ _ _ _ _ _ (search needs) (search needs) (search needs) (c .version-conflicts .ensures)
+returns-4 c = joined-ported _ _ _ _ _ _ _ (search needs) (search needs) (search needs) (c .version-conflicts .ensures)
 
 pub joined-of-spec : {M : Type 1} → statement M
 joined-of-spec =

@@ -3,7 +3,7 @@ use Rattle.leaf.proofs.Finding.{joined-skip, read-is, loop-type, loop-b
 use Rattle.leaf.proofs.Walking.{walk, walk-stuck, walk-on, walk-done, stepped}
 use Rattle.leaf.specs.declared.find.LeafTest.{LeafTest}
 use Rattle.leaf.specs.Find.{joined, testLeaf}
-use Rattle.mvcc.specs.Lists.{lookup}
+use Rattle.mvcc.specs.Snapshot.{lookup, snapshot, statuses}
 use native.Mathlib.Omega.{arith}
 use Prim.Native.Nat.{_≤_}
 use mathlib.Core.Logic.{⊎-elim}
@@ -13,10 +13,10 @@ use Rattle.leaf.proofs.find.test_leaf.Statement.{statement}
 use Rattle.leaf.proofs.find.test_leaf.Tie as tie
 
 abbrev Inv-loop : tie.InvT-loop
-Inv-loop pg claiming ids states active xmax cur p seen key before left₀ at₀ k₀ c₀ found₀ left at k c found = (at ≤ 4096) × (walk (joined claiming (lookup ids states) active xmax cur seen key) p k c left at found pg ≡ walk (joined claiming (lookup ids states) active xmax cur seen key) p 0 0 left₀ 12 before pg)
+Inv-loop pg p key xmax active cur ids states claiming seen before left₀ at₀ k₀ c₀ found₀ left at k c found = (at ≤ 4096) × (walk (joined key (snapshot xmax active cur) (lookup (statuses ids states)) claiming seen) p k c left at found pg ≡ walk (joined key (snapshot xmax active cur) (lookup (statuses ids states)) claiming seen) p 0 0 left₀ 12 before pg)
 
 abbrev μ-loop : tie.MeasureT-loop
-μ-loop pg claiming ids states active xmax cur p seen key before left₀ at₀ k₀ c₀ found₀ left at k c found = left
+μ-loop pg p key xmax active cur ids states claiming seen before left₀ at₀ k₀ c₀ found₀ left at k c found = left
 
 get-node-type-requires : tie.Need-get-node-type-requires Inv-loop μ-loop
 get-node-type-requires c κs = search needs
@@ -63,7 +63,7 @@ loop-less : tie.Need-loop-less Inv-loop μ-loop
 loop-less c = search needs
 
 loop-again : tie.Need-loop-again Inv-loop μ-loop
-loop-again c = (omega (arith, stepped _ 0 _ _ _ (c .before .before .before .before .next-end .ensures) (search needs) .inside), walk-on _ _ _ _ _ _ _ (c .before .before .before .before .next-end .ensures) _ (search needs) (search needs) (c .before .before .get-rank .ensures) (c .before .creator-at .ensures) (λ x r u v w. ⊎-elim (λ z. z .2 ∙ read-is _ _ r (z .1 .ensures)) (λ z. z .1 ∙ joined-skip _ _ _ _ _ _ _ _ _ (λ q. z .0 .left (c .before .before .get-rank .ensures ∙ (u ∙ q)))) (c .if3 .came)) ∙ c .before .before .before .before .before .before .loop .inv .1)
+loop-again c = (omega (arith, stepped _ 0 _ _ _ (c .before .before .before .before .next-end .ensures) (search needs) .inside), walk-on _ _ _ _ _ _ _ (c .before .before .before .before .next-end .ensures) _ (search needs) (search needs) (c .before .before .get-rank .ensures) (c .before .creator-at .ensures) (λ x r u v w. ⊎-elim (λ z. z .2 ∙ read-is _ _ r (z .1 .ensures)) (λ z. z .1 ∙ joined-skip _ _ _ _ _ _ _ (λ q. z .0 .left (c .before .before .get-rank .ensures ∙ (u ∙ q)))) (c .if3 .came)) ∙ c .before .before .before .before .before .before .loop .inv .1)
 
 returns-3 : tie.Need-returns-3 Inv-loop μ-loop
 unfolding testLeaf

@@ -1,8 +1,8 @@
 -- `list_visible::pass::measure_leaf` meets its contract: the cells that are left give what all of them give. Assumes nothing.
 use Rattle.list_visible.proofs.Going.{next-turn}
 use Rattle.list_visible.proofs.Measuring.{turn-seen, turn-unseen, Measuring, measuring-start, measuring-end, measuring-turn}
-use Rattle.list_visible.specs.Fast.{scanLeaf}
-use Rattle.mvcc.specs.Lists.{lookup}
+use Rattle.list_visible.specs.Steps.Fast.{scanLeaf}
+use Rattle.mvcc.specs.Snapshot.{lookup, snapshot, statuses}
 use Rattle.page.specs.Page.{page}
 use native.Mathlib.Omega.{arith}
 use mathlib.Core.Logic.{⊎-elim}
@@ -11,10 +11,10 @@ use Rattle.list_visible.proofs.pass.measure_leaf.Statement.{statement}
 use Rattle.list_visible.proofs.pass.measure_leaf.Tie as tie
 
 abbrev Inv-loop : tie.InvT-loop
-Inv-loop pool ids states active xmax cur used p pg base left₀ at₀ here₀ left at here = Measuring (lookup ids states) active xmax cur p (scanLeaf (lookup ids states) active xmax cur p here₀ (page p pool)) (here₀ .size) pg left at here
+Inv-loop pool used p xmax active cur ids states pg base left₀ at₀ here₀ left at here = Measuring (snapshot xmax active cur) (lookup (statuses ids states)) p (scanLeaf (page p pool) p (snapshot xmax active cur) (lookup (statuses ids states)) here₀) (here₀ .size) pg left at here
 
 abbrev μ-loop : tie.MeasureT-loop
-μ-loop pool ids states active xmax cur used p pg base left₀ at₀ here₀ left at here = left
+μ-loop pool used p xmax active cur ids states pg base left₀ at₀ here₀ left at here = left
 
 page-of-requires : tie.Need-page-of-requires Inv-loop μ-loop
 page-of-requires c κs = omega (arith, c .before .before .before .before .pre .0, c .before .before .before .before .pre .1)
@@ -29,7 +29,7 @@ cast-left : tie.Need-cast-left Inv-loop μ-loop
 cast-left c = search needs
 
 loop-holds : tie.Need-loop-holds Inv-loop μ-loop
-loop-holds c = measuring-start _ _ _ _ _ _ _ (c .before .page-of .ensures .0) (c .get-cell-count .ensures) (c .before .before .before .before .before .before .pre .4) (c .before .before .before .before .before .before .pre .5)
+loop-holds c = measuring-start _ _ _ _ _ (c .before .page-of .ensures .0) (c .get-cell-count .ensures) (c .before .before .before .before .before .before .pre .4) (c .before .before .before .before .before .before .pre .5)
 
 next-at-requires : tie.Need-next-at-requires Inv-loop μ-loop
 next-at-requires c κs = let t = next-turn _ _ _ _ (c .loop-test .taken) (c .before .loop .inv .going) in omega (arith, t .next-is, t .inside)
@@ -50,10 +50,10 @@ loop-less : tie.Need-loop-less Inv-loop μ-loop
 loop-less c = search needs
 
 loop-again : tie.Need-loop-again Inv-loop μ-loop
-loop-again c = let t = next-turn _ _ _ _ (c .before .before .before .loop-test .taken) (c .before .before .before .before .loop .inv .going) in measuring-turn _ _ _ _ _ (c .before .before .before .before .loop .inv) t (c .before .before .before .before .before .before .page-of .ensures .1) (c .before .before .next-at .ensures) (⊎-elim (λ w. turn-seen _ _ _ _ _ _ t (c .before .visible-at .ensures) (w .0 .taken) (c .before .before .next-at .ensures) (w .1 .ensures) (w .2 .ensures) (w .3)) (λ w. turn-unseen _ _ _ _ _ _ t (c .before .visible-at .ensures) (w .0 .left) (w .1)) (c .if1 .came))
+loop-again c = let t = next-turn _ _ _ _ (c .before .before .before .loop-test .taken) (c .before .before .before .before .loop .inv .going) in measuring-turn _ _ _ (c .before .before .before .before .loop .inv) t (c .before .before .before .before .before .before .page-of .ensures .1) (c .before .before .next-at .ensures) (⊎-elim (λ w. turn-seen _ _ _ _ t (c .before .visible-at .ensures) (w .0 .taken) (c .before .before .next-at .ensures) (w .1 .ensures) (w .2 .ensures) (w .3)) (λ w. turn-unseen _ _ _ _ t (c .before .visible-at .ensures) (w .0 .left) (w .1)) (c .if1 .came))
 
 returns : tie.Need-returns Inv-loop μ-loop
-returns c = measuring-end _ _ _ _ _ (c .before .loop .inv) (c .loop-test .left)
+returns c = measuring-end _ _ _ (c .before .loop .inv) (c .loop-test .left)
 
 pub measure-leaf-spec : {M : Type 1} → statement M
 measure-leaf-spec =

@@ -1,5 +1,5 @@
 -- `list_visible::pass::record_size` meets its contract. Assumes nothing.
-use Rattle.list_visible.specs.Fast.{recordSize}
+use Rattle.list_visible.specs.Steps.Fast.{recordSize}
 use borrow.Author.Needs.{needs}
 use Rattle.list_visible.proofs.pass.record_size.Statement.{statement}
 use Rattle.list_visible.proofs.pass.record_size.Tie as tie

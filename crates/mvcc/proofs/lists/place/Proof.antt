@@ -3,7 +3,7 @@
 use Prim.Native.Nat.{_≤_, _-_}
 use native.Mathlib.Omega.{arith}
 use lib.ListN.{length}
-use Rattle.mvcc.specs.Lists.{below}
+use Rattle.mvcc.specs.Steps.Lists.{below}
 use Rattle.mvcc.proofs.Laws.{below-le, below-gt, below-length}
 use Rattle.mvcc.proofs.lists.place.Statement.{statement}
 use Rattle.mvcc.proofs.lists.place.Tie as tie

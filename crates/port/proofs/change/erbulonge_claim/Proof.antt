@@ -2,8 +2,8 @@
 use mathlib.Core.Path.{ap, _∙_}
 use mir.Facts.{toZ-ofZ}
 use Rattle.page.specs.Key.{rankOf}
-use Rattle.port.proofs.Changing.{passed-pool, claim-asked}
 use Rattle.port.specs.Words.{stateWords}
+use Rattle.port.proofs.Changing.{passed-pool, claim-asked}
 use borrow.Author.Needs.{needs}
 use Rattle.port.proofs.change.erbulonge_claim.Statement.{statement}
 use Rattle.port.proofs.change.erbulonge_claim.Tie as tie
@@ -26,7 +26,7 @@ returns c =
     let asked = at .before .before .before in
     let start = asked .before .before .before .before .before in
     passed-pool stateWords _ (c .give-stated .ensures)
-    (at .claim .ensures ∙ claim-asked _ _ (ap rankOf (toZ-ofZ (start .fits .key))) (asked .current-of .ensures) _ _ _ _)
+    (at .claim .ensures ∙ claim-asked _ _ (ap rankOf (toZ-ofZ (start .fits .key))) (asked .current-of .ensures) _ _ _)
 
 pub erbulonge-claim-spec : {M : Type 1} → statement M
 erbulonge-claim-spec =

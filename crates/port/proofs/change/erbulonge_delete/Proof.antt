@@ -2,8 +2,8 @@
 use mathlib.Core.Path.{ap, _∙_}
 use mir.Facts.{toZ-ofZ}
 use Rattle.page.specs.Key.{rankOf}
-use Rattle.port.proofs.Changing.{passed-pool, delete-asked}
 use Rattle.port.specs.Words.{stateWords}
+use Rattle.port.proofs.Changing.{passed-pool, delete-asked}
 use borrow.Author.Needs.{needs}
 use Rattle.port.proofs.change.erbulonge_delete.Statement.{statement}
 use Rattle.port.proofs.change.erbulonge_delete.Tie as tie
@@ -26,7 +26,7 @@ returns c =
     let asked = at .before .before .before in
     let start = asked .before .before .before .before in
     passed-pool stateWords _ (c .give-stated .ensures)
-    (at .delete .ensures ∙ delete-asked _ _ (ap rankOf (toZ-ofZ (start .fits .key))) (asked .current-of .ensures) _ _)
+    (at .delete .ensures ∙ delete-asked _ _ (ap rankOf (toZ-ofZ (start .fits .key))) (asked .current-of .ensures) _)
 
 pub erbulonge-delete-spec : {M : Type 1} → statement M
 erbulonge-delete-spec =

@@ -2,8 +2,8 @@
 use mathlib.Core.Path.{ap, _∙_}
 use mir.Facts.{toZ-ofZ}
 use Rattle.page.specs.Key.{rankOf}
-use Rattle.port.proofs.Changing.{passed-pool, insert-version-asked}
 use Rattle.port.specs.Words.{stateWords}
+use Rattle.port.proofs.Changing.{passed-pool, insert-version-asked}
 use borrow.Author.Needs.{needs}
 use Rattle.port.proofs.change.erbulonge_insert_version.Statement.{statement}
 use Rattle.port.proofs.change.erbulonge_insert_version.Tie as tie

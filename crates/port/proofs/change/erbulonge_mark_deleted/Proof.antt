@@ -2,8 +2,8 @@
 use mathlib.Core.Path.{ap, _∙_}
 use mir.Facts.{toZ-ofZ}
 use Rattle.page.specs.Key.{rankOf}
-use Rattle.port.proofs.Changing.{passed-pool, plain-asked}
 use Rattle.port.specs.Words.{stateWords}
+use Rattle.port.proofs.Changing.{passed-pool, plain-asked}
 use borrow.Author.Needs.{needs}
 use Rattle.port.proofs.change.erbulonge_mark_deleted.Statement.{statement}
 use Rattle.port.proofs.change.erbulonge_mark_deleted.Tie as tie
@@ -26,7 +26,7 @@ returns c =
     let asked = at .before .before .before in
     let start = asked .before .before .before .before in
     passed-pool stateWords _ (c .give-stated .ensures)
-    (at .mark-deleted .ensures ∙ plain-asked _ _ (ap rankOf (toZ-ofZ (start .fits .key))) (asked .current-of .ensures) _ _ _)
+    (at .mark-deleted .ensures ∙ plain-asked _ _ (ap rankOf (toZ-ofZ (start .fits .key))) (asked .current-of .ensures) _ _)
 
 pub erbulonge-mark-deleted-spec : {M : Type 1} → statement M
 erbulonge-mark-deleted-spec =

@@ -2,8 +2,8 @@
 use mathlib.Core.Path.{ap, _∙_}
 use mir.Facts.{toZ-ofZ}
 use Rattle.page.specs.Key.{rankOf}
-use Rattle.port.proofs.Changing.{passed-pool, mark-asked}
 use Rattle.port.specs.Words.{stateWords}
+use Rattle.port.proofs.Changing.{passed-pool, mark-asked}
 use borrow.Author.Needs.{needs}
 use Rattle.port.proofs.change.erbulonge_mark_deleted_visible.Statement.{statement}
 use Rattle.port.proofs.change.erbulonge_mark_deleted_visible.Tie as tie
@@ -26,7 +26,7 @@ returns c =
     let asked = at .before .before .before in
     let start = asked .before .before .before .before .before in
     passed-pool stateWords _ (c .give-stated .ensures)
-    (at .mark-deleted-visible .ensures ∙ mark-asked _ _ (ap rankOf (toZ-ofZ (start .fits .key))) (asked .current-of .ensures) _ _ _ _ _)
+    (at .mark-deleted-visible .ensures ∙ mark-asked _ _ (ap rankOf (toZ-ofZ (start .fits .key))) (asked .current-of .ensures) _ _ _ _)
 
 pub erbulonge-mark-deleted-visible-spec : {M : Type 1} → statement M
 erbulonge-mark-deleted-visible-spec =

@@ -4,7 +4,7 @@ use mathlib.Core.Path.{_≡_, refl, _∙_}
 use Prim.Native.Nat.{_-_, _<_}
 use native.Mathlib.Omega.{arith}
 use Rattle.tree_grow.specs.Path.{pageAt, pagesAbove}
-use Rattle.tree_grow.specs.Safe.{Stands}
+use Rattle.tree_grow.specs.Steps.Safe.{Stands}
 use Rattle.tree_grow.proofs.Planning.{four-pages, above-none, next-is, planFrom, plan-room, plan-bad, plan-on, plan-end, plan-is}
 use borrow.Author.Needs.{needs}
 use Rattle.tree_grow.proofs.plan.plan_above.Statement.{statement}

@@ -25,10 +25,10 @@ new-at-spot-requires : tie.Need-new-at-spot-requires
 new-at-spot-requires c κs = (c .before .before .before .before .before .before .before .before .pre .0, c .before .before .before .before .before .before .before .before .pre .1, c .before .before .before .before .before .before .before .before .pre .2, rw (c .before .before .before .before .creator-of .ensures) at (sym (c .before .before .before .find-spot .ensures) ∙ c .before .x .given .1))
 
 returns : tie.Need-returns
-returns c = new-lost _ _ _ _ _ _ _ (c .before .before .before .before .before .creator-of .ensures) (c .before .before .before .before .find-spot .ensures) (c .before .before .f .given .1) (c .refused-by .ensures)
+returns c = new-lost _ _ _ _ _ _ (c .before .before .before .before .before .creator-of .ensures) (c .before .before .before .before .find-spot .ensures) (c .before .before .f .given .1) (c .refused-by .ensures)
 
 returns-2 : tie.Need-returns-2
-returns-2 c = new-found _ _ _ _ _ _ _ (c .before .before .before .before .before .creator-of .ensures) (c .before .before .before .before .find-spot .ensures) (c .before .before .x .given .1) (c .new-at-spot .ensures)
+returns-2 c = new-found _ _ _ _ _ _ (c .before .before .before .before .before .creator-of .ensures) (c .before .before .before .before .find-spot .ensures) (c .before .before .x .given .1) (c .new-at-spot .ensures)
 
 pub new-at-spec : {M : Type 1} → statement M
 new-at-spec = tie.close (tie.spec creator-of-requires find-spot-requires enum-known-f refused-by-requires enum-known-x new-at-spot-requires returns returns-2)

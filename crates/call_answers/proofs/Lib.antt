@@ -1,0 +1,2 @@
+-- Laws of `call_answers`.
+pub mod Answers

@@ -1,0 +1,3 @@
+-- What a reader of the answers of all calls has to believe.
+pub mod Names
+pub mod Answer

@@ -1,0 +1,4 @@
+-- Steps of the code and needs of its stores, which only contracts inside cite.
+pub mod Fast
+pub mod Slow
+pub mod ScanFacts

@@ -1,0 +1,17 @@
+-- The last step of a climb.
+use mathlib.Core.Bool.{true, false}
+use mathlib.Core.List.{List, [], _∷_}
+use Prim.Native.Nat.{ℕ, zero, suc, _+_, _<_}
+use lib.Dec.{ltb, eqb}
+use lib.ListN.{length}
+use Rattle.store.specs.Pick.{pick}
+use Rattle.page.specs.Page.{page}
+use Rattle.page.specs.Header.{parentOf}
+use Rattle.row.specs.Fault.{structural}
+use Rattle.tree.specs.declared.climb.Path.{Path}
+use Rattle.tree.specs.declared.climb.Climbed.{Climbed}
+use Rattle.tree.specs.Climb.{arrived, lost}
+
+-- at the root, with the path to it
+abbrev pub atRoot : ℕ → Path → List ℕ → Climbed
+atRoot p path s = pick (eqb (parentOf (page p s)) 0) (arrived path) (lost (structural p))

@@ -1,0 +1,12 @@
+-- The other half of entering: a page divides, and its right half is entered above it.
+use mathlib.Core.List.{List, [], _∷_}
+use Prim.Native.Nat.{ℕ, _+_}
+use lib.Dec.{ltb, eqb}
+use Rattle.page.specs.Page.{page}
+use Rattle.page.specs.Pool.{nextPage}
+use Rattle.inner_edit.specs.Edit.{middleKey}
+use Rattle.tree_grow.specs.Grow.{Grown, halved, enterOf}
+
+-- page p divides, and its right half is entered above it
+abbrev pub divideOf : (ps : List ℕ) → (p i sep new : ℕ) → Grown → Grown
+divideOf ps p i sep new g = enterOf ps p (middleKey i sep new (page p (g .pool))) (nextPage (g .pool) (g .state)) (halved p i sep new g)
