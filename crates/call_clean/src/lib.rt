@@ -60,6 +60,8 @@ pub fn remove_at(pool: &mut [u8], st: State, key: u32) -> CountedAt
     }
 }
 
+// Remove: drops every version of the key that search meets, and answers how many; 0 of a key without versions.
+// Refused (BadPool, BadTree), it leaves the pool as it was. The state stays in any case.
 pub fn remove_all_versions(pool: &mut [u8], st: State, key: i32) -> Counted
     ensures { λ r. ⌜ ended (ofCounted r) (now (pool .exit)) ≡ removeCall (now (pool .entry)) st (rankOf key) ⌝ }
 {
@@ -93,6 +95,9 @@ pub fn vacuum_at(pool: &mut [u8], st: State, ids: &[u64], states: &[u8], bound: 
     }
 }
 
+// Vacuum: in every leaf drops the versions whose creator is aborted, or whose deleter is committed and below the
+// bound, and clears the stamps of aborted deleters; how many were dropped. The state stays in any case. Refused
+// (BadPool, BadStatuses, BadTree), it leaves the pool as it was.
 pub fn vacuum_deleted_versions(
     pool: &mut [u8],
     st: State,

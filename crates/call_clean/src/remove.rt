@@ -16,6 +16,7 @@ pub enum ChainCount {
     Bad(Fault),
 }
 
+// How many versions of the key search meets from page `first` on, every leaf judged; or the first fault.
 pub fn count_along(pool: &[u8], used: u32, first: u32, key: u32) -> ChainCount
     requires { ⌜ (used * 4096 ≤ length (now pool)) × (used ≤ 65536) ⌝ }
     ensures { λ r. ⌜ r ≡ countAlong (now (pool .entry)) used first key ⌝ }
@@ -58,6 +59,7 @@ fn take_run(pg: &mut [u8], run: Run, e: usize)
     }
 }
 
+// Takes the key's cells out of every leaf that this walk meets; a leaf without any is not written.
 pub fn remove_along(pool: &mut [u8], used: u32, first: u32, key: u32)
     requires { ⌜ used * 4096 ≤ length (now pool) ⌝ }
     ensures { λ _. ⌜ now (pool .exit) ≡ removedAlong (now (pool .entry)) used first key used ⌝ }

@@ -17,6 +17,7 @@ pub enum ChainJudged {
     Bad(Fault),
 }
 
+// Whether every leaf along the chain from page `first` to its end is judged well; or the first fault.
 pub fn judge_along(pool: &[u8], used: u32, first: u32) -> ChainJudged
     requires { ⌜ used * 4096 ≤ length (now pool) ⌝ }
     ensures { λ r. ⌜ r ≡ judgedAlong (now (pool .entry)) used first ⌝ }
@@ -43,7 +44,7 @@ pub fn judge_along(pool: &[u8], used: u32, first: u32) -> ChainJudged
     ChainJudged::Bad(row::structural_fault(p))
 }
 
-// How many versions are dropped.
+// Vacuums every leaf along the chain from page `first` on, and answers how many versions were dropped.
 pub fn vacuum_along(
     pool: &mut [u8],
     used: u32,

@@ -1,5 +1,6 @@
-// The writing calls (document 01, section 6; btree.rs): each takes any pool, state, lists and row, judges them itself on the
-// unchanged pool, and only then stores. A refused call changes nothing. No function here asks anything of its caller.
+// The calls that insert (document 01, section 6; btree.rs): each takes any pool, state, lists and row, judges
+// them itself on the unchanged pool, and only then stores. A refused call changes nothing. No function here asks
+// anything of its caller.
 ghost use mathlib.Core.Path.{_≡_};
 ghost use Rattle.page.specs.Key.{rankOf};
 ghost use Rattle.call_answers.specs.Answer.{ended, ofStated};
@@ -75,6 +76,8 @@ pub fn insert_version_at(
     })
 }
 
+// Insert version: a version as it is given, after equals of its key and creator; no version of the key refuses
+// it. Refused (BadPool, BadData, BadTree, Undividable, TooDeep, NoPages), it leaves the pool as it was.
 pub fn insert_version(
     pool: &mut [u8],
     st: State,

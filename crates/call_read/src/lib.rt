@@ -1,5 +1,5 @@
-// The reading calls (document 01, section 6; btree.rs): each takes any pool, state, snapshot and lists, judges them itself,
-// and answers by the table. No function here asks anything of its caller.
+// Create, and the reading calls (document 01, section 6; btree.rs): each takes any pool, state, snapshot and
+// lists, judges them itself, and answers by the table. No function here asks anything of its caller.
 ghost use mathlib.Core.Path.{_≡_};
 ghost use Rattle.page.specs.Key.{rankOf};
 ghost use Rattle.call_answers.specs.Answer.{ofFound, ofYesNo, ofCounted, ofStated, written, ended};
@@ -33,6 +33,8 @@ use page::pool::State;
 use tree::ChainBest;
 use tree::ChainTest;
 
+// A new tree: the next page becomes an empty leaf, and the new state has it as its root. The old root is not
+// read. Refused (BadPool, NoPages), it leaves the pool as it was.
 pub fn create(pool: &mut [u8], st: State) -> Stated
     ensures { λ r. ⌜ ended (ofStated r) (now (pool .exit)) ≡ createCall (now (pool .entry)) st ⌝ }
 {
@@ -99,6 +101,8 @@ pub fn find_visible_at(
     Looked::Refused(call_answers::refuse(BAD_POOL))
 }
 
+// Lookup: of the key's versions that the snapshot sees the one with the largest creator, on a tie the last; or
+// BadPool, BadSnapshot, BadStatuses, BadTree, Absent.
 pub fn find_visible(
     pool: &[u8],
     st: State,
@@ -143,6 +147,8 @@ fn told_of(r: ChainTest) -> YesNo
     }
 }
 
+// Conflict: whether some version of the key conflicts with the creator number that the caller has seen; or
+// BadPool, BadSnapshot, BadTree. Statuses play no part.
 pub fn has_write_conflict(
     pool: &[u8],
     st: State,
@@ -209,6 +215,8 @@ pub fn list_at(pool: &[u8], st: State, which: Which, out: &mut [u8]) -> CountedA
     CountedAt::Refused(call_answers::refuse(BAD_POOL))
 }
 
+// The records of the key's versions in chain order, at the start of the output; how many bytes they take.
+// Refused (BadPool, BadTree, Short), it leaves the output as it was.
 pub fn versions_of(pool: &[u8], st: State, key: i32, out: &mut [u8]) -> Counted
     ensures { λ r. ⌜ written (ofCounted r) (now (out .exit)) ≡ versionsOfCall (now (pool .entry)) st (rankOf key) (now (out .entry)) ⌝ }
 {
@@ -216,6 +224,8 @@ pub fn versions_of(pool: &[u8], st: State, key: i32, out: &mut [u8]) -> Counted
     call_answers::counted_of(list_at(pool, st, Which::Key(rank), out))
 }
 
+// The records of all versions in chain order, at the start of the output; how many bytes they take. Refused
+// (BadPool, BadTree, Short), it leaves the output as it was.
 pub fn all_versions(pool: &[u8], st: State, out: &mut [u8]) -> Counted
     ensures { λ r. ⌜ written (ofCounted r) (now (out .exit)) ≡ allVersionsCall (now (pool .entry)) st (now (out .entry)) ⌝ }
 {
@@ -232,6 +242,9 @@ pub fn numbers_at(pool: &[u8], st: State, out: &mut [u8]) -> CountedAt
     CountedAt::Refused(call_answers::refuse(BAD_POOL))
 }
 
+// The records of the tree's page numbers, a page before its children's subtrees, the last child first, at the
+// start of the output; how many bytes they take. Refused (BadPool, BadTree, Short), it leaves the output as it
+// was. It keeps a table of 8 KiB on the stack.
 pub fn page_numbers(pool: &[u8], st: State, out: &mut [u8]) -> Counted
     ensures { λ r. ⌜ written (ofCounted r) (now (out .exit)) ≡ pageNumbersCall (now (pool .entry)) st (now (out .entry)) ⌝ }
 {
@@ -273,6 +286,9 @@ pub fn scan_at(
     CountedAt::Refused(call_answers::refuse(BAD_POOL))
 }
 
+// The records of what the snapshot sees, at the start of the output: rising keys, one version a key, the largest
+// creator, on a tie the first; how many bytes they take. Refused (BadPool, BadSnapshot, BadStatuses, BadTree,
+// Short), it leaves the output as it was.
 pub fn scan_visible(
     pool: &[u8],
     st: State,

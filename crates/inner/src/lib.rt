@@ -1,5 +1,5 @@
-// An internal page (document 01, sections 2, 3 and 5; btree.rs): its keys and children, its judgement, and the child
-// that a key leads to. Crate branch enters, divides and makes internal pages.
+// An internal page (document 01, sections 2, 3 and 5; btree.rs): its keys and children, its judgement, and the
+// child that a key leads to. Crate `inner_edit` enters, divides and makes internal pages.
 ghost use mathlib.Core.Path.{_≡_};
 ghost use mathlib.Core.Bool.{true};
 ghost use Prim.Native.Nat.{_≤_, _<_};
@@ -22,6 +22,7 @@ pub enum InnerJudged {
     Bad(Fault),
 }
 
+// Key i of the page, by its rank: the separator between children i and i + 1.
 pub fn key_at(pg: &[u8], i: usize) -> u32
     requires { ⌜ (i < 510) × (length (now pg) ≡ 4096) ⌝ }
     ensures { λ r. ⌜ r ≡ keyAt (now (pg .entry)) i ⌝ }
@@ -29,6 +30,7 @@ pub fn key_at(pg: &[u8], i: usize) -> u32
     page::key::get_rank(pg, 16 + 8 * i)
 }
 
+// Child i of the page: a page number, of which nothing is judged here.
 pub fn child_at(pg: &[u8], i: usize) -> u32
     requires { ⌜ (i ≤ 510) × (length (now pg) ≡ 4096) ⌝ }
     ensures { λ r. ⌜ r ≡ childAt (now (pg .entry)) i ⌝ }
@@ -53,6 +55,7 @@ fn never_falls(pg: &[u8], n: usize) -> bool
     ok
 }
 
+// How many keys page p has, if it is internal, with 1 to 510 keys that never fall; otherwise its fault.
 pub fn judge_inner(pg: &[u8], p: u32) -> InnerJudged
     requires { ⌜ length (now pg) ≡ 4096 ⌝ }
     ensures { λ r. ⌜ r ≡ judgeInner p (now (pg .entry)) ⌝ }

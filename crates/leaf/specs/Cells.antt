@@ -1,5 +1,5 @@
 -- The cells of a leaf as a list, and its judgement (document 01, section 3: "cells are readable and non-decreasing by
--- key, then creator"), which answers where the cells end, or the first fault in reading order (ticket 3's numbers).
+-- key, then creator"), which answers where the cells end, or the first fault in reading order (its kind by row/Read's numbers).
 use mathlib.Core.Bool.{Bool, _&&_, _||_, false}
 use mathlib.Core.List.{List, [], _∷_}
 use Prim.Native.Nat.{ℕ, zero, suc}

@@ -1,5 +1,6 @@
-// One leaf page (document 01, sections 2, 3 and 5; btree.rs): its judgement. Module find looks for something in it, module
-// place says where a new cell goes and where a leaf is cut. Crate `leaf_edit` changes a page.
+// One leaf page (document 01, sections 2, 3 and 5; btree.rs): its judgement. Module find looks for something in
+// it, module place says where a new cell goes and where a leaf is cut. Crates `leaf_edit`, `leaf_divide` and
+// `leaf_vacuum` change leaves.
 pub mod find;
 pub mod place;
 
@@ -17,6 +18,8 @@ pub enum Judged {
     Bad(Fault),
 }
 
+// Whether key k with creator c may follow key k0 with creator c0: a larger key, or the same and no smaller
+// creator.
 pub fn in_order(k0: u32, c0: u64, k: u32, c: u64) -> bool
     ensures { λ r. ⌜ r ≡ inOrder k0 c0 k c ⌝ }
 {
@@ -29,6 +32,7 @@ pub fn in_order(k0: u32, c0: u64, k: u32, c: u64) -> bool
     c0 <= c
 }
 
+// The fault of the cell at that offset of page p, with its kind, 1 to 4.
 pub fn cell_fault(p: u32, at: usize, kind: u8) -> Fault
     requires { ⌜ at < 65536 ⌝ }
     ensures { λ r. ⌜ r ≡ cellFault p at kind ⌝ }
@@ -92,6 +96,7 @@ fn judge_cells(pg: &[u8], p: u32, n: usize) -> Judged
     Judged::Ok(at)
 }
 
+// Where the cells of page p end, if it is a leaf with readable cells in order; otherwise its first fault.
 pub fn judge_leaf(pg: &[u8], p: u32) -> Judged
     requires { ⌜ length (now pg) ≡ 4096 ⌝ }
     ensures { λ r. ⌜ r ≡ judgeLeaf p (now (pg .entry)) ⌝ }

@@ -146,6 +146,7 @@ pub fn cut_leaf(pg: &[u8], t: usize, before: usize, b: usize, after: usize, m: u
     last.best
 }
 
+// Whether both sides of the cut, of t bytes in all, hold cells and fit a leaf; otherwise it is Undividable.
 pub fn cut_fits(t: usize, cut: Cut) -> bool
     ensures { λ r. ⌜ r ≡ cutFits t cut ⌝ }
 {

@@ -192,6 +192,8 @@ fn walk(pool: &[u8], seen: &mut [u8], out: &mut [u8], used: u32, root: u32) -> N
     visit(pool, seen, out, used, 3, line, 0, root)
 }
 
+// The records of the tree's page numbers at the start of the output, and their length; or Short, or the first
+// fault, and then nothing is written.
 pub fn list_numbers(pool: &[u8], out: &mut [u8], used: u32, root: u32) -> Listing
     requires { ⌜ (used * 4096 ≤ length (now pool)) × (used ≤ 65536) ⌝ }
     ensures { λ r. ⌜ written r (now (out .exit)) ≡ numbersTree (now (pool .entry)) used root (now (out .entry)) ⌝ }

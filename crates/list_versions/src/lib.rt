@@ -19,6 +19,7 @@ use row::Fault;
 use tree::Descent;
 use tree::Route;
 
+// The versions that are listed: all, or those of one key.
 pub enum Which {
     All,
     Key(u32),
@@ -58,6 +59,7 @@ fn run_of(pg: &[u8], which: Which, p: u32) -> LeafRun
     }
 }
 
+// How many bytes the records along the chain from page `first` on take, every leaf judged; or the first fault.
 pub fn size_along(pool: &[u8], which: Which, used: u32, first: u32) -> ChainSize
     requires { ⌜ used * 4096 ≤ length (now pool) ⌝ }
     ensures { λ r. ⌜ r ≡ sizeTold (rowsAlong (now (pool .entry)) used first which) ⌝ }

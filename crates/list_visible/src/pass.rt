@@ -26,6 +26,7 @@ pub struct Chosen {
     pub creator: u64,
 }
 
+// The version that is listed as soon as another key comes, if any.
 pub enum Wait {
     Nothing,
     For(Chosen),

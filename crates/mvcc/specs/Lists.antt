@@ -1,5 +1,5 @@
--- Lists of transaction numbers (document 01, sections 4 and 6): strictly rising, membership, the status beside a
--- number, and which active lists and status lists are refused.
+-- Lists of transaction numbers (document 01, sections 4 and 6): strictly rising, membership, the state beside a
+-- number, and which active lists are refused.
 use mathlib.Core.Path.{_≡_}
 use mathlib.Core.Bool.{Bool, true, false, _&&_, _||_}
 use mathlib.Core.List.{List, [], _∷_}

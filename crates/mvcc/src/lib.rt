@@ -20,6 +20,7 @@ pub enum Current {
 // The snapshot of calls that are given none: this bound, and an empty active list.
 pub const PLAIN_XMAX: u64 = 18446744073709551615;
 
+// The current transaction's number, or 0 if there is none: the creator of what it inserts.
 pub fn creator_of(cur: Current) -> u64
     ensures { λ r. ⌜ r ≡ creatorOf cur ⌝ }
 {
@@ -106,6 +107,7 @@ fn hides(
     }
 }
 
+// Whether the snapshot sees a version of that creator and stamp.
 pub fn is_visible(
     xmax: u64,
     active: &[u64],
@@ -133,6 +135,7 @@ pub fn is_visible(
     false
 }
 
+// Whether tx changed after the snapshot: it is at or above xmax, or in the active list.
 pub fn changed_after_snapshot(xmax: u64, active: &[u64], tx: u64) -> bool
     requires { ⌜ rising (now active) ≡ true ⌝ }
     ensures { λ r. ⌜ r ≡ changedAfter (snapshot xmax (now (active .entry)) Current.Nobody) tx ⌝ }

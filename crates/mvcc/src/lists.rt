@@ -47,6 +47,7 @@ fn are_states(s: &[u8]) -> bool
     ok
 }
 
+// Whether the active list is at most 4096 long and strictly rising; otherwise it is a BadSnapshot.
 pub fn good_active(active: &[u64]) -> bool
     ensures { λ r. ⌜ r ≡ goodActive (now (active .entry)) ⌝ }
 {
@@ -56,6 +57,8 @@ pub fn good_active(active: &[u64]) -> bool
     rises(active)
 }
 
+// Whether the status list has at most 65,536 entries, a state from 1 to 3 for each transaction, and is strictly
+// rising; otherwise it is BadStatuses.
 pub fn good_statuses(ids: &[u64], states: &[u8]) -> bool
     ensures { λ r. ⌜ r ≡ goodStatuses (statuses (now (ids .entry)) (now (states .entry))) ⌝ }
 {
@@ -89,6 +92,7 @@ fn place(a: &[u64], x: u64) -> usize
     lo
 }
 
+// Whether tx stands in the active list.
 pub fn in_active(active: &[u64], tx: u64) -> bool
     requires { ⌜ rising (now active) ≡ true ⌝ }
     ensures { λ r. ⌜ r ≡ mem tx (now (active .entry)) ⌝ }
@@ -100,6 +104,7 @@ pub fn in_active(active: &[u64], tx: u64) -> bool
     false
 }
 
+// The state of tx: 1 active, 2 committed, 3 aborted; 0 where it is not listed.
 pub fn status_of(ids: &[u64], states: &[u8], tx: u64) -> u8
     requires { ⌜ StatusesJudged (statuses (now ids) (now states)) ⌝ }
     ensures { λ r. ⌜ r ≡ lookup (statuses (now (ids .entry)) (now (states .entry))) tx ⌝ }

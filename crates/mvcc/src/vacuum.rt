@@ -30,6 +30,7 @@ fn stamped_fate(bound: u64, d: u64, state: u8) -> Fate
     Fate::Same
 }
 
+// What vacuum at that bound does to a version of that creator and stamp.
 pub fn fate_of(ids: &[u64], states: &[u8], bound: u64, creator: u64, stamp: Stamp) -> Fate
     requires { ⌜ StatusesJudged (statuses (now ids) (now states)) ⌝ }
     ensures { λ r. ⌜ r ≡ fate (lookup (statuses (now (ids .entry)) (now (states .entry)))) bound creator stamp ⌝ }

@@ -12,6 +12,7 @@ ghost use Rattle.mvcc.specs.Snapshot.{lookup, goodStatuses, statuses};
 ghost use Rattle.mvcc_entries.specs.Steps.Entries.{none};
 ghost use Rattle.mvcc_entries.specs.Entries.{txs, sts, statusCall, roomCode, Unpacked};
 
+// A transaction and its state, 16 bytes in C's layout.
 #[repr(C)]
 pub struct Entry {
     pub tx: u64,

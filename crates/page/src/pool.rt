@@ -16,11 +16,13 @@ pub struct State {
     pub used: u32,
 }
 
+// A page that was handed out, and the state after that.
 pub struct Allocated {
     pub page: u32,
     pub state: State,
 }
 
+// Whether the pool has 1 to 65,536 whole pages, and all that are in use; otherwise it is a BadPool.
 pub fn pool_is_good(pool: &[u8], st: State) -> bool
     ensures { λ r. ⌜ r ≡ goodPool (now (pool .entry)) st ⌝ }
 {
@@ -37,6 +39,7 @@ pub fn pool_is_good(pool: &[u8], st: State) -> bool
     st.used as usize <= n
 }
 
+// The 4096 bytes of page p.
 pub fn page_of(pool: &[u8], p: u32) -> &[u8]
     requires { ⌜ p * 4096 + 4096 ≤ length (now pool) ⌝ }
     ensures { λ r. ⌜ (now r ≡ page p (now (pool .entry))) × (length (now r) ≡ 4096) ⌝ }

@@ -35,6 +35,11 @@ fn pointer_of(has: bool, page: u32, slot: u16) -> Pointer
     Pointer::Absent
 }
 
+// Insert: a live version of the key with data `body`; its creator is the current transaction, or 0 without one.
+// Returns 0 Done, 1 BadPool, 4 BadStatuses, 5 BadData, 2 BadTree, 6 Duplicate, 9 Undividable, 11 TooDeep or 10
+// NoPages.
+// Writes pool and answer, unless refused.
+// Done: answer[0] is the root and answer[1] the pages in use from now on.
 #[no_mangle]
 pub extern "C" fn erbulonge_insert(
     pool: &mut [u8],
@@ -58,6 +63,11 @@ pub extern "C" fn erbulonge_insert(
     )
 }
 
+// Insert version: a version of the key as it is given, after equals of its key and creator. Where has_deleter is
+// false it is live and `deleter` is not read; where has_pointer is false, `page` and `slot` are not read.
+// Returns 0 Done, 1 BadPool, 5 BadData, 2 BadTree, 9 Undividable, 11 TooDeep or 10 NoPages.
+// Writes pool and answer, unless refused.
+// Done: answer[0] is the root and answer[1] the pages in use from now on.
 #[no_mangle]
 pub extern "C" fn erbulonge_insert_version(
     pool: &mut [u8],
@@ -84,6 +94,10 @@ pub extern "C" fn erbulonge_insert_version(
     )
 }
 
+// Stamp: the version that erbulonge_find_visible would give gets the stamp of `deleter`, also over one it has.
+// Returns 0 Done, 1 BadPool, 3 BadSnapshot, 4 BadStatuses, 2 BadTree, 8 Absent, 11 TooDeep or 10 NoPages.
+// Writes pool and answer, unless refused.
+// Done: answer[0] is the root and answer[1] the pages in use from now on.
 #[no_mangle]
 pub extern "C" fn erbulonge_mark_deleted_visible(
     pool: &mut [u8],
@@ -109,6 +123,10 @@ pub extern "C" fn erbulonge_mark_deleted_visible(
     )
 }
 
+// Plain stamp: as erbulonge_mark_deleted_visible, with xmax 2^64 - 1 and an empty active list.
+// Returns 0 Done, 1 BadPool, 4 BadStatuses, 2 BadTree, 8 Absent, 11 TooDeep or 10 NoPages.
+// Writes pool and answer, unless refused.
+// Done: answer[0] is the root and answer[1] the pages in use from now on.
 #[no_mangle]
 pub extern "C" fn erbulonge_mark_deleted(
     pool: &mut [u8],
@@ -132,6 +150,10 @@ pub extern "C" fn erbulonge_mark_deleted(
     )
 }
 
+// Plain delete: plain stamp by the current transaction itself, or by 0 if there is none.
+// Returns 0 Done, 1 BadPool, 4 BadStatuses, 2 BadTree, 8 Absent, 11 TooDeep or 10 NoPages.
+// Writes pool and answer, unless refused.
+// Done: answer[0] is the root and answer[1] the pages in use from now on.
 #[no_mangle]
 pub extern "C" fn erbulonge_delete(
     pool: &mut [u8],
@@ -151,6 +173,11 @@ pub extern "C" fn erbulonge_delete(
     crate::give_stated(answer, call_stamp::delete(pool, st, key, cur, ids, states))
 }
 
+// Claim: lookup, conflict test against the creator found, and the stamp of the current transaction, as one call.
+// Returns 0 Done, 1 BadPool, 3 BadSnapshot (also with no current transaction, or 0), 4 BadStatuses, 2 BadTree, 8
+// Absent, 7 Conflict, 11 TooDeep or 10 NoPages.
+// Writes pool and answer, unless refused.
+// Done: answer[0] is the root and answer[1] the pages in use from now on.
 #[no_mangle]
 pub extern "C" fn erbulonge_claim(
     pool: &mut [u8],
@@ -175,6 +202,9 @@ pub extern "C" fn erbulonge_claim(
     )
 }
 
+// Remove: drops every version of the key that search meets; a key without versions is Done too.
+// Returns 0 Done, 1 BadPool or 2 BadTree. Writes pool and answer, unless refused.
+// Done: answer[0] is how many versions were dropped. Root and pages in use stay.
 #[no_mangle]
 pub extern "C" fn erbulonge_remove_all_versions(
     pool: &mut [u8],
@@ -189,6 +219,10 @@ pub extern "C" fn erbulonge_remove_all_versions(
     crate::give_counted(answer, call_clean::remove_all_versions(pool, st, key))
 }
 
+// Vacuum: drops the versions whose creator is aborted, or whose deleter is committed and below `bound`, and
+// clears the stamps of aborted deleters.
+// Returns 0 Done, 1 BadPool, 4 BadStatuses or 2 BadTree. Writes pool and answer, unless refused.
+// Done: answer[0] is how many versions were dropped. Root and pages in use stay.
 #[no_mangle]
 pub extern "C" fn erbulonge_vacuum_deleted_versions(
     pool: &mut [u8],

@@ -1,6 +1,13 @@
-// What the booking server calls in-process (document 01, sections 6 and 9): numbers and slices in, the answer's number
-// back, what Done gives as words at the start of a lent array, a listing in a lent output. Each call here is the one of
-// `call_read` that it names; module change has the writing calls.
+// What the booking server calls in-process (document 01, sections 6 and 9): numbers and slices in, the answer's
+// number back, what Done gives as words at the start of a lent array, a listing in a lent output. Each call here
+// is the one of `call_read` that it names; module change has the writing calls.
+// For C: a slice is a pointer and then its length in elements; `answer` points to eight u64, of which a call
+// writes those that it names and no other, and none when refused. root and used are the state: what the last
+// Done gave. xmax, active and current are the snapshot, where has_current is false if there is no current
+// transaction, and current is then not read; ids and states are the status list. Keys are signed.
+// A call returns 0 Done, 1 BadPool, 2 BadTree, 3 BadSnapshot, 4 BadStatuses, 5 BadData, 6 Duplicate, 7 Conflict,
+// 8 Absent, 9 Undividable, 10 NoPages, 11 TooDeep or 12 Short; of several that hold, the first in the order in
+// which the call names them. A refused call writes nothing.
 pub mod change;
 
 ghost use mathlib.Core.Path.{_≡_};
@@ -136,6 +143,9 @@ pub(crate) fn give_counted(answer: &mut [u64], r: Counted) -> u8
     }
 }
 
+// Create: the next page of the pool becomes the root of a new, empty tree.
+// Returns 0 Done, 1 BadPool or 10 NoPages. Writes pool and answer, unless refused.
+// Done: answer[0] is the new root, answer[1] the pages in use from now on; that page of the pool is written.
 #[no_mangle]
 pub extern "C" fn erbulonge_create(
     pool: &mut [u8],
@@ -148,6 +158,9 @@ pub extern "C" fn erbulonge_create(
     give_stated(answer, call_read::create(pool, State { root, used }))
 }
 
+// Check: whether the tree is well-formed; it never says BadTree.
+// Returns 0 Done or 1 BadPool. Writes answer, unless refused.
+// Done: answer[0] is 1 for yes, 0 for no.
 #[no_mangle]
 pub extern "C" fn erbulonge_check(pool: &[u8], root: u32, used: u32, answer: &mut [u64; 8]) -> u8
     ensures { λ n. ⌜ called n (now (answer .exit)) ≡ given flagWords (checkCall (now (pool .entry)) (stateOf root used)) (now (answer .entry)) ⌝ }
@@ -155,6 +168,11 @@ pub extern "C" fn erbulonge_check(pool: &[u8], root: u32, used: u32, answer: &mu
     give_yes_no(answer, call_read::check(pool, State { root, used }))
 }
 
+// Lookup: of the key's versions that the snapshot sees the one with the largest creator, on a tie the last.
+// Returns 0 Done, 1 BadPool, 3 BadSnapshot, 4 BadStatuses, 2 BadTree or 8 Absent. Writes answer, unless refused.
+// Done: answer[0] is the creator; [1] and [2] are 1 and the deleter, or 0 and 0; [3] to [5] are 1, page and slot
+// of the version pointer, or three times 0; [6] and [7] are where the data starts, from the pool's first byte,
+// and its length.
 #[no_mangle]
 pub extern "C" fn erbulonge_find_visible(
     pool: &[u8],
@@ -179,6 +197,9 @@ pub extern "C" fn erbulonge_find_visible(
     )
 }
 
+// Plain lookup: as erbulonge_find_visible, with xmax 2^64 - 1 and an empty active list.
+// Returns 0 Done, 1 BadPool, 4 BadStatuses, 2 BadTree or 8 Absent. Writes answer, unless refused.
+// Done: the eight words of a version, as erbulonge_find_visible gives them.
 #[no_mangle]
 pub extern "C" fn erbulonge_find(
     pool: &[u8],
@@ -198,6 +219,9 @@ pub extern "C" fn erbulonge_find(
     give_found(answer, call_read::find(pool, st, key, cur, ids, states))
 }
 
+// Conflict: whether some version of the key conflicts with the creator number `seen`. Statuses play no part.
+// Returns 0 Done, 1 BadPool, 3 BadSnapshot or 2 BadTree. Writes answer, unless refused.
+// Done: answer[0] is 1 for yes, 0 for no.
 #[no_mangle]
 pub extern "C" fn erbulonge_has_write_conflict(
     pool: &[u8],
@@ -221,6 +245,9 @@ pub extern "C" fn erbulonge_has_write_conflict(
     )
 }
 
+// The key's versions in chain order: for each a u32 length of what follows, a u16 that is 1, and the leaf cell.
+// Returns 0 Done, 1 BadPool, 2 BadTree or 12 Short. Writes out and answer, unless refused.
+// Done: answer[0] is how many bytes were written from the start of out; what follows them in out stays.
 #[no_mangle]
 pub extern "C" fn erbulonge_versions_of(
     pool: &[u8],
@@ -236,6 +263,9 @@ pub extern "C" fn erbulonge_versions_of(
     give_counted(answer, call_read::versions_of(pool, st, key, out))
 }
 
+// All versions of the tree in chain order, in records as erbulonge_versions_of writes them.
+// Returns 0 Done, 1 BadPool, 2 BadTree or 12 Short. Writes out and answer, unless refused.
+// Done: answer[0] is how many bytes were written from the start of out; what follows them in out stays.
 #[no_mangle]
 pub extern "C" fn erbulonge_all_versions(
     pool: &[u8],
@@ -250,6 +280,11 @@ pub extern "C" fn erbulonge_all_versions(
     give_counted(answer, call_read::all_versions(pool, st, out))
 }
 
+// What the snapshot sees, rising by key, one version a key: the largest creator, on a tie the first. The records
+// are as erbulonge_versions_of writes them.
+// Returns 0 Done, 1 BadPool, 3 BadSnapshot, 4 BadStatuses, 2 BadTree or 12 Short. Writes out and answer, unless
+// refused.
+// Done: answer[0] is how many bytes were written from the start of out; what follows them in out stays.
 #[no_mangle]
 pub extern "C" fn erbulonge_scan_visible(
     pool: &[u8],
@@ -274,6 +309,10 @@ pub extern "C" fn erbulonge_scan_visible(
     )
 }
 
+// The tree's page numbers, a page before its children's subtrees, the last child first: for each the u32 6, the
+// u16 5 and the number as u32. It keeps a table of 8 KiB on the stack.
+// Returns 0 Done, 1 BadPool, 2 BadTree or 12 Short. Writes out and answer, unless refused.
+// Done: answer[0] is how many bytes were written from the start of out; what follows them in out stays.
 #[no_mangle]
 pub extern "C" fn erbulonge_page_numbers(
     pool: &[u8],

@@ -1,5 +1,5 @@
--- What stands at an offset of any bytes (document 01, section 2, "Leaf cell"): the cell, or the kind of its fault
--- (ticket 3): 1 unknown format byte, 2 a flag above 1, 3 a payload short or past the end, 4 data over 4051.
+-- What stands at an offset of any bytes (document 01, section 2, "Leaf cell"): the cell, or the kind of its fault:
+-- 1 unknown format byte, 2 a flag above 1, 3 a payload short or past the end, 4 data over 4051.
 use mathlib.Core.Bool.{Bool, true, false, not, _&&_, _||_}
 use mathlib.Core.List.{List}
 use Prim.Native.Nat.{ℕ, zero, suc, _+_, _-_}

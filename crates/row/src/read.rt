@@ -19,6 +19,7 @@ pub enum HeadRead {
     Bad(u8),
 }
 
+// The cell that was read, or the kind of its fault, 1 to 4.
 pub enum CellRead {
     Got(Cell),
     Bad(u8),
@@ -123,6 +124,7 @@ fn payload_at(s: &[u8], at: usize, m: usize, past: bool) -> CellRead
     }
 }
 
+// The cell at that offset of any bytes, or the lowest kind of fault that holds on the bytes that are there.
 pub fn read_cell(s: &[u8], at: usize) -> CellRead
     ensures { λ r. ⌜ r ≡ cellAt (now (s .entry)) at ⌝ }
 {
@@ -167,7 +169,7 @@ pub fn cell_end(s: &[u8], at: usize) -> usize
     }
 }
 
-// Fields of a cell that is known to be there, each by itself.
+// Where the cell ends. Of a cell that is known to be there, as the two below: nothing is judged.
 pub fn next_at(s: &[u8], at: usize) -> usize
     requires { ⌜ at + 8 + leAt 4 (now s) (at + 4) ≤ length (now s) ⌝ }
     ensures { λ r. ⌜ r ≡ at + 8 + leAt 4 (now (s .entry)) (at + 4) ⌝ }
@@ -175,6 +177,7 @@ pub fn next_at(s: &[u8], at: usize) -> usize
     at + 8 + store::get32(s, at + 4) as usize
 }
 
+// The creator of a cell that is known to be there.
 pub fn creator_at(s: &[u8], at: usize) -> u64
     requires { ⌜ at + 17 ≤ length (now s) ⌝ }
     ensures { λ r. ⌜ r ≡ leAt 8 (now (s .entry)) (at + 8 + 1) ⌝ }
@@ -182,6 +185,7 @@ pub fn creator_at(s: &[u8], at: usize) -> u64
     store::get64(s, at + 8 + 1)
 }
 
+// The stamp of a cell that is known to be there.
 pub fn stamp_at(s: &[u8], at: usize) -> Stamp
     requires { ⌜ at + 8 + 9 + stampSize (leAt 1 (now s) (at + 8 + 9)) ≤ length (now s) ⌝ }
     ensures { λ r. ⌜ r ≡ stampIn (now (s .entry)) (at + 8 + 9) ⌝ }

@@ -27,6 +27,7 @@ fn pointer_len(pointer: Pointer) -> usize
     }
 }
 
+// The bytes that a version's cell takes: 19 and its data when live and unpointed, at most 33 and its data.
 pub fn cell_size(stamp: Stamp, pointer: Pointer, len: usize) -> usize
     requires { ⌜ len ≤ 4051 ⌝ }
     ensures { λ r. ⌜ r ≡ cellSize stamp pointer len ⌝ }
@@ -72,6 +73,7 @@ fn put_pointer(out: &mut [u8], i: usize, pointer: Pointer)
     }
 }
 
+// Writes the cell at the start of out, whose other bytes stay.
 pub fn write_cell(
     out: &mut [u8],
     key: u32,

@@ -14,6 +14,7 @@ fn wide16(x: u8) -> u16
     x as u16
 }
 
+// The byte at offset a.
 pub fn get8(s: &[u8], a: usize) -> u8
     requires { ⌜ a + 1 ≤ length (now s) ⌝ }
     ensures { λ r. ⌜ r ≡ leAt 1 (now (s .entry)) a ⌝ }
@@ -21,6 +22,7 @@ pub fn get8(s: &[u8], a: usize) -> u8
     s[a]
 }
 
+// The number in the two bytes at offset a, the lowest first.
 pub fn get16(s: &[u8], a: usize) -> u16
     requires { ⌜ a + 2 ≤ length (now s) ⌝ }
     ensures { λ r. ⌜ r ≡ leAt 2 (now (s .entry)) a ⌝ }
@@ -29,6 +31,7 @@ pub fn get16(s: &[u8], a: usize) -> u16
     wide16(s[a]) + 256 * wide16(s[b])
 }
 
+// The number in the four bytes at offset a, the lowest first.
 pub fn get32(s: &[u8], a: usize) -> u32
     requires { ⌜ a + 4 ≤ length (now s) ⌝ }
     ensures { λ r. ⌜ r ≡ leAt 4 (now (s .entry)) a ⌝ }
@@ -38,6 +41,7 @@ pub fn get32(s: &[u8], a: usize) -> u32
     lo + 65536 * hi
 }
 
+// The number in the eight bytes at offset a, the lowest first.
 pub fn get64(s: &[u8], a: usize) -> u64
     requires { ⌜ a + 8 ≤ length (now s) ⌝ }
     ensures { λ r. ⌜ r ≡ leAt 8 (now (s .entry)) a ⌝ }
@@ -55,6 +59,7 @@ pub fn put8(s: &mut [u8], a: usize, x: u8)
     s[a] = x;
 }
 
+// Stores x in the two bytes at offset a, the lowest first.
 pub fn put16(s: &mut [u8], a: usize, x: u16)
     requires { ⌜ a + 2 ≤ length (now s) ⌝ }
     ensures { λ _. ⌜ now (s .exit) ≡ putAt 2 (now (s .entry)) a x ⌝ }
@@ -64,6 +69,7 @@ pub fn put16(s: &mut [u8], a: usize, x: u16)
     s[b] = (x / 256 % 256) as u8;
 }
 
+// Stores x in the four bytes at offset a, the lowest first.
 pub fn put32(s: &mut [u8], a: usize, x: u32)
     requires { ⌜ a + 4 ≤ length (now s) ⌝ }
     ensures { λ _. ⌜ now (s .exit) ≡ putAt 4 (now (s .entry)) a x ⌝ }
@@ -72,6 +78,7 @@ pub fn put32(s: &mut [u8], a: usize, x: u32)
     put16(s, a + 2, (x / 65536) as u16);
 }
 
+// Stores x in the eight bytes at offset a, the lowest first.
 pub fn put64(s: &mut [u8], a: usize, x: u64)
     requires { ⌜ a + 8 ≤ length (now s) ⌝ }
     ensures { λ _. ⌜ now (s .exit) ≡ putAt 8 (now (s .entry)) a x ⌝ }

@@ -5,6 +5,7 @@ ghost use Prim.Native.Nat.{_+_, _-_, _≤_};
 ghost use lib.ListN.{length};
 ghost use Rattle.store.specs.Part.{part, put, zeros};
 
+// Stores all of new from offset `at` on.
 pub fn copy_in(d: &mut [u8], at: usize, new: &[u8])
     requires { ⌜ at + length (now new) ≤ length (now d) ⌝ }
     ensures { λ _. ⌜ now (d .exit) ≡ put at (now (new .entry)) (now (d .entry)) ⌝ }
@@ -16,6 +17,7 @@ pub fn copy_in(d: &mut [u8], at: usize, new: &[u8])
     }
 }
 
+// Zeros from one offset up to the other.
 pub fn zero_fill(d: &mut [u8], from: usize, to: usize)
     requires { ⌜ (from ≤ to) × (to ≤ length (now d)) ⌝ }
     ensures { λ _. ⌜ now (d .exit) ≡ put from (zeros (to - from)) (now (d .entry)) ⌝ }
@@ -51,6 +53,7 @@ fn copy_up(d: &mut [u8], src: usize, dst: usize, n: usize)
     }
 }
 
+// Copies n bytes from offset src to offset dst; the two places may overlap.
 pub fn shift(d: &mut [u8], src: usize, dst: usize, n: usize)
     requires { ⌜ (src + n ≤ length (now d)) × (dst + n ≤ length (now d)) ⌝ }
     ensures { λ _. ⌜ now (d .exit) ≡ put dst (part src n (now (d .entry))) (now (d .entry)) ⌝ }

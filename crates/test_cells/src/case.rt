@@ -16,6 +16,7 @@ const ROOM: usize = 8192;
 // What stands in the buffer of a cell before the cell does.
 const GUARD: u8 = 165;
 
+// What a case came to: as recorded (the first three), otherwise, or a line that says no case.
 pub enum Outcome {
     Wrote,
     ReadCell,
@@ -25,6 +26,7 @@ pub enum Outcome {
     Unreadable,
 }
 
+// Whether the case came out as recorded.
 pub fn is_same(o: Outcome) -> bool {
     match o {
         Outcome::Wrote => true,
@@ -131,6 +133,7 @@ fn read_case(s: &[u8]) -> Outcome {
     compare(row::read::read_cell(&b[0..len], at as usize), recorded)
 }
 
+// What the case on that line comes to.
 pub fn run(s: &[u8]) -> Outcome {
     let kind = test_text::field(s, 0);
     if check::same(kind, b"w") {

@@ -6,11 +6,13 @@ use test_text::NumberText;
 use test_text::fields::Head;
 use test_text::fields::HeadText;
 
+// The recorded answer, or a text that is none.
 pub enum AnswerText {
     Got(CellRead),
     Bad,
 }
 
+// The cell of that key and version at offset `at`, with its data and its end at these places.
 pub fn cell_of(h: Head, at: usize, start: usize, len: usize, next: usize) -> Cell {
     let stamp = h.stamp;
     let pointer = h.pointer;

@@ -29,6 +29,7 @@ fn same_pointer(a: Pointer, b: Pointer) -> bool {
     }
 }
 
+// Whether all fields are equal, places too.
 pub fn same_cell(a: Cell, b: Cell) -> bool {
     if a.at != b.at || a.key != b.key || a.next != b.next {
         return false;

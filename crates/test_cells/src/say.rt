@@ -66,6 +66,7 @@ fn write_first(out: &[u8], n: usize)
     io::write_all(libc::STDOUT_FILENO, &out[0..n]);
 }
 
+// Writes the line of case n.
 pub fn outcome(n: u64, o: Outcome) {
     let mut out = [0u8; ROOM];
     let a = put_number(&mut out, 0, n);
@@ -85,6 +86,7 @@ fn fill_record(out: &mut [u8])
     row::write::write_cell(&mut out[6..], key, 5, Stamp::Absent, Pointer::Absent, &body);
 }
 
+// Writes the line with the listing record.
 pub fn record() {
     let mut r = [0u8; 27];
     fill_record(&mut r);
@@ -95,6 +97,7 @@ pub fn record() {
     write_first(&out, e);
 }
 
+// Writes the last line: how many cases there are, and how many differ.
 pub fn counts(cases: u64, differ: u64) {
     let mut out = [0u8; ROOM];
     let a = put_number(&mut out, 0, cases);

@@ -1,31 +1,43 @@
 // What is counted, and the lines that say it: a place for each thing that a step can come to.
 pub const CREATED: usize = 0;
 
+// Versions inserted.
 pub const INSERTED: usize = 1;
 
+// Versions that were refused, since no division has room for them.
 pub const UNDIVIDABLE: usize = 2;
 
+// Versions stamped.
 pub const STAMPED: usize = 3;
 
+// Stamps that find nothing.
 pub const NOTHING_STAMPED: usize = 4;
 
+// Removals of some version.
 pub const REMOVED: usize = 5;
 
+// Removals that find nothing.
 pub const NOTHING_REMOVED: usize = 6;
 
+// Vacuums that drop versions.
 pub const VACUUMED: usize = 7;
 
+// Vacuums that drop none.
 pub const NOTHING_VACUUMED: usize = 8;
 
+// Pages that the list records.
 pub const TOLD: usize = 9;
 
 // A line that cannot be read, or a call that is refused and should not be.
 pub const FAULT: usize = 10;
 
+// Cases that are compared.
 pub const CASES: usize = 11;
 
+// Cases that differ.
 pub const DIFFER: usize = 12;
 
+// How many places there are.
 pub const PLACES: usize = 13;
 
 pub type Counts = [u64; PLACES];
@@ -42,6 +54,7 @@ fn say(n: u64, what: &[u8]) {
     io::write_all(libc::STDOUT_FILENO, what);
 }
 
+// Writes a line that names the last case, which differs.
 pub fn differs(counts: &Counts) {
     io::write_all(libc::STDOUT_FILENO, b"case ");
     say(counts[CASES], b" differs\n");
@@ -65,6 +78,7 @@ fn say_removals(counts: &Counts) {
     say(counts[NOTHING_VACUUMED], b" vacuums that drop none\n");
 }
 
+// Writes all counts; the last line is how many cases there are, and how many differ.
 pub fn report(counts: &Counts) {
     say_changes(counts);
     say_removals(counts);

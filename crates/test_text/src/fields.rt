@@ -16,16 +16,19 @@ pub struct Head {
     pub pointer: Pointer,
 }
 
+// The stamp that a field spells, or a field that spells none.
 pub enum StampText {
     Got(Stamp),
     Bad,
 }
 
+// The pointer that a field spells, or a field that spells none.
 pub enum PointerText {
     Got(Pointer),
     Bad,
 }
 
+// The key and version that a line spells, or a line that spells none.
 pub enum HeadText {
     Got(Head),
     Bad,

@@ -5,6 +5,7 @@ pub mod fields;
 ghost use lib.ListN.{length};
 ghost use Rattle.test_text.specs.Within.{Within};
 
+// The number that a text spells, or a text that spells none.
 pub enum NumberText {
     Got(u64),
     Bad,
@@ -25,6 +26,7 @@ pub fn rest(s: &[u8], k: usize) -> &[u8] {
     &s[a..]
 }
 
+// Field k of the line, counted from 0; empty where the line has fewer.
 pub fn field(s: &[u8], k: usize) -> &[u8] {
     let t = rest(s, k);
     let e = bytes::scan::find(t, 0, t.len(), b' ');

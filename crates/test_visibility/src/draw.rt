@@ -14,6 +14,7 @@ pub fn below(x: &mut u32, n: usize) -> usize
     new as usize % n
 }
 
+// One of list.
 pub fn one_of(x: &mut u32, list: &[u64]) -> u64
     requires { ⌜ 0 < length (now list) ⌝ }
 {

@@ -5,24 +5,34 @@ ghost use Prim.Native.Nat.{_<_};
 // The lists of the case were not judged good.
 pub const REFUSED: usize = 4;
 
+// The creator is aborted.
 pub const ABORTED: usize = 5;
 
+// The creator is not in the status list.
 pub const UNLISTED: usize = 6;
 
+// The creator is the current transaction.
 pub const OWN: usize = 7;
 
+// The deleter is the current transaction.
 pub const OWN_STAMP: usize = 8;
 
+// The creator is the seen one.
 pub const SEEN: usize = 9;
 
+// Claim's test says something else than the ported one.
 pub const OTHER_CLAIM: usize = 10;
 
+// A character of the list that is no answer.
 pub const NO_ANSWER: usize = 11;
 
+// All cases.
 pub const CASES: usize = 12;
 
+// The answer is not the recorded one.
 pub const DIFFER: usize = 13;
 
+// How many places there are.
 pub const PLACES: usize = 14;
 
 pub type Counts = [u64; PLACES];
@@ -77,6 +87,7 @@ fn say_length(cases: u64) {
     }
 }
 
+// Writes all counts; the last line is how many cases there are, and how many differ.
 pub fn report(counts: &Counts) {
     say_answers(counts);
     say_ways(counts);

@@ -75,6 +75,7 @@ fn arrive(pool: &[u8], p: u32, path: Path) -> Climbed
     lost_at(row::structural_fault(p))
 }
 
+// The pages from a leaf up to the root, four at most, the leaf's first; or the fault that ends the climb.
 pub fn climb(pool: &[u8], used: u32, root: u32, leaf: u32) -> Climbed
     requires { ⌜ (used * 4096 ≤ length (now pool)) × (leaf < used) ⌝ }
     ensures { λ r. ⌜ r ≡ climbed (climbOf 3 used root leaf (now (pool .entry))) ⌝ }

@@ -15,6 +15,7 @@ fn write_root(pg: &mut [u8])
     page::set_is_root(pg, 1);
 }
 
+// The next page becomes an empty leaf; the new state has it as its root.
 pub fn make_root(pool: &mut [u8], st: State) -> State
     requires { ⌜ (st .used < 65536) × (st .used * 4096 + 4096 ≤ length (now pool)) ⌝ }
     ensures { λ r. ⌜ r ≡ rooted (now (pool .entry)) st ⌝ }

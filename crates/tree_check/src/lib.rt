@@ -161,7 +161,8 @@ fn check_leaf(pool: &[u8], used: u32, parent: u32, p: u32, lo: u32, hi: u32, nex
     Verdict::Ill
 }
 
-// With each number of levels: a wrong one fails on the way to the last leaf.
+// Whether the tree is well-formed. Each number of levels is tried: a wrong one fails on the way to the last
+// leaf.
 pub fn check_tree(pool: &[u8], used: u32, root: u32) -> bool
     requires { ⌜ used * 4096 ≤ length (now pool) ⌝ }
     ensures { λ r. ⌜ r ≡ isWellFormed used root (now (pool .entry)) ⌝ }

@@ -24,6 +24,7 @@ pub enum Links {
     Bad(Fault),
 }
 
+// What a division leads to above it; or the fault of a child that is not in use.
 pub enum Plan {
     Ok(Division),
     Bad(Fault),
@@ -88,7 +89,7 @@ fn links_in(pg: &[u8], used: u32, i: usize, relocated: bool) -> Links
     }
 }
 
-// Above the first page of the path.
+// What a division of the path's first page leads to above it; or the fault of a child that is not in use.
 pub fn plan_above(pool: &[u8], used: u32, path: Path) -> Plan
     requires { ⌜ (0 < path .len) × (path .len ≤ 4) × (used * 4096 ≤ length (now pool)) × Stands used (pageAt path 0) (pagesAbove path 0) (now pool) ⌝ }
     ensures { λ r. ⌜ r ≡ planOf used (pageAt path 0) (pagesAbove path 0) (now (pool .entry)) ⌝ }

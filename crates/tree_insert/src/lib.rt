@@ -39,11 +39,13 @@ pub struct Spot {
     pub end: usize,
 }
 
+// The spot of a new version, or the first fault on the way to it.
 pub enum Spotted {
     Ok(Spot),
     Bad(Fault),
 }
 
+// Where a new version of that key and creator goes: down by the insertion rule, then after equals.
 pub fn find_spot(pool: &[u8], used: u32, root: u32, key: u32, creator: u64) -> Spotted
     requires { ⌜ used * 4096 ≤ length (now pool) ⌝ }
     ensures { λ r. ⌜ r ≡ spotOf (now (pool .entry)) used root key creator ⌝ }

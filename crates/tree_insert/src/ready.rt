@@ -52,6 +52,7 @@ fn refused_by(number: u8, fault: Fault) -> Ready
     }
 }
 
+// A refusal by its number, without a fault.
 pub fn refused(number: u8) -> Ready
     ensures { λ r. ⌜ r ≡ notReady number noFault ⌝ }
 {

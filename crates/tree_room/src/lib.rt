@@ -26,6 +26,7 @@ pub struct LeafPlan {
     pub plan: Planned,
 }
 
+// The plan of a leaf that has room: nothing divides.
 pub fn fits_as(path: Path) -> Planned
     ensures { λ r. ⌜ r ≡ fitting path ⌝ }
 {

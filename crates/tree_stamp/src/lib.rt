@@ -33,6 +33,7 @@ pub struct Beside {
     pub end: usize,
 }
 
+// The cell that is to be stamped, in its leaf.
 pub struct Target {
     pub leaf: u32,
     pub cell: Cell,
@@ -84,6 +85,7 @@ fn longer_by(c: Cell) -> usize
     }
 }
 
+// The bytes of all the leaf's cells, with the target stamped: over 4084 the leaf divides.
 pub fn bytes_stamped(t: Target) -> usize
     requires { ⌜ (12 ≤ t .beside .end) × (t .beside .end ≤ 4096) ⌝ }
     ensures { λ r. ⌜ r ≡ bytesStamped t ⌝ }

@@ -30,6 +30,7 @@ pub struct Marking {
     pub plan: Planned,
 }
 
+// A refusal by its number, with the fault behind a BadTree.
 pub fn refused_by(number: u8, fault: Fault) -> Marking
     ensures { λ r. ⌜ r ≡ notMarking number fault ⌝ }
 {
@@ -61,6 +62,7 @@ pub fn refused_by(number: u8, fault: Fault) -> Marking
     }
 }
 
+// A refusal by its number, without a fault.
 pub fn refused(number: u8) -> Marking
     ensures { λ r. ⌜ r ≡ notMarking number noFault ⌝ }
 {

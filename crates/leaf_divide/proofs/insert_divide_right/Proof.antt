@@ -1,4 +1,4 @@
--- `leaf_edit::divide::insert_divide_right` meets its contract. Assumes nothing.
+-- `leaf_divide::insert_divide_right` meets its contract. Assumes nothing.
 use denote.Ref.{now}
 use native.Mathlib.Omega.{arith}
 use Rattle.page.proofs.PageLaws.{lent-page, back-page}

@@ -1,4 +1,4 @@
--- `leaf_edit::divide::link_leaves` meets its contract. Assumes nothing.
+-- `leaf_divide::link_leaves` meets its contract. Assumes nothing.
 use Rattle.leaf_divide.proofs.Dividing.{link-done}
 use borrow.Author.Needs.{needs}
 use Rattle.leaf_divide.proofs.link_leaves.Statement.{statement}

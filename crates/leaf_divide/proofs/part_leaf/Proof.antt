@@ -1,4 +1,4 @@
--- `leaf_edit::divide::part_leaf` meets its contract. Assumes nothing.
+-- `leaf_divide::part_leaf` meets its contract. Assumes nothing.
 use denote.Ref.{now}
 use Rattle.leaf_divide.proofs.Dividing.{part-done}
 use borrow.Author.Needs.{needs}

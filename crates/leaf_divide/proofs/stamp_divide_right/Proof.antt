@@ -1,4 +1,4 @@
--- `leaf_edit::divide::stamp_divide_right` meets its contract. Assumes nothing.
+-- `leaf_divide::stamp_divide_right` meets its contract. Assumes nothing.
 use mathlib.Core.Path.{refl}
 use denote.Ref.{now}
 use native.Mathlib.Omega.{arith}

@@ -1,4 +1,4 @@
--- `leaf_edit::edit::grow_stamp` meets its contract. Assumes nothing.
+-- `leaf_edit::grow_stamp` meets its contract. Assumes nothing.
 use mathlib.Core.Path.{_∙_}
 use borrow.Author.Needs.{needs}
 use Rattle.leaf_edit.proofs.grow_stamp.Statement.{statement}

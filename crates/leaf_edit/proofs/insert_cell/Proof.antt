@@ -1,4 +1,4 @@
--- `leaf_edit::edit::insert_cell` meets its contract. Assumes nothing.
+-- `leaf_edit::insert_cell` meets its contract. Assumes nothing.
 use Rattle.leaf_edit.specs.Edit.{withCell}
 use mathlib.Core.Path.{_∙_}
 use borrow.Author.Needs.{needs}

@@ -1,4 +1,4 @@
--- `leaf_edit::edit::open_gap` meets its contract. Assumes nothing.
+-- `leaf_edit::open_gap` meets its contract. Assumes nothing.
 use Rattle.leaf_edit.specs.Steps.Edit.{gapped}
 use mathlib.Core.Path.{_∙_}
 use borrow.Author.Needs.{needs}

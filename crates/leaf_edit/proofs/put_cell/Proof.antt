@@ -1,4 +1,4 @@
--- `leaf_edit::edit::put_cell` meets its contract. Assumes nothing.
+-- `leaf_edit::put_cell` meets its contract. Assumes nothing.
 use mathlib.Core.Path.{sym, _∙_}
 use Rattle.row.proofs.Writing.{length-cell}
 use Rattle.leaf_edit.proofs.Editing.{cell-in}

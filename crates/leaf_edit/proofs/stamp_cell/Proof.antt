@@ -1,4 +1,4 @@
--- `leaf_edit::edit::stamp_cell` meets its contract. Assumes nothing.
+-- `leaf_edit::stamp_cell` meets its contract. Assumes nothing.
 use mathlib.Core.Path.{refl, _∙_}
 use denote.Ref.{now}
 use native.Mathlib.Omega.{arith}

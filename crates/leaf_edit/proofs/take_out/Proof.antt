@@ -1,4 +1,4 @@
--- `leaf_edit::edit::take_out` meets its contract. Assumes nothing.
+-- `leaf_edit::take_out` meets its contract. Assumes nothing.
 use mathlib.Core.Path.{_∙_}
 use denote.Ref.{now}
 use native.Mathlib.Omega.{arith}

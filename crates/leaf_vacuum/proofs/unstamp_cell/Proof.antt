@@ -1,4 +1,4 @@
--- `leaf_edit::vacuum::unstamp_cell` meets its contract: a gap closed and two fields stored. Assumes nothing.
+-- `leaf_vacuum::unstamp_cell` meets its contract: a gap closed and two fields stored. Assumes nothing.
 use mathlib.Core.Path.{refl, _∙_}
 use denote.Ref.{now}
 use native.Mathlib.Omega.{arith}

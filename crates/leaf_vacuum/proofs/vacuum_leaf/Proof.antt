@@ -1,4 +1,4 @@
--- `leaf_edit::vacuum::vacuum_leaf` meets its contract: the sweep that is left, of the page as it is now, is the whole sweep; and
+-- `leaf_vacuum::vacuum_leaf` meets its contract: the sweep that is left, of the page as it is now, is the whole sweep; and
 -- the rows that are left stand on the page. Assumes nothing.
 use mathlib.Core.Path.{_≡_, refl, sym, ap, _∙_, subst}
 use mathlib.Core.Bool.{false}
