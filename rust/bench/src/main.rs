@@ -93,7 +93,7 @@ fn read(name: &str, key: i32, st: State, pool: &[u8], out: &mut [u8]) -> Answer<
             .map(|found| found.start),
         "plain" => st.find(pool, key, None, &none).map(|found| found.start),
         "conflict" => st
-            .has_write_conflict(pool, key, 1, &SNAPSHOT)
+            .has_write_conflict(pool, key, &SNAPSHOT, 1)
             .map(usize::from),
         "versions" => st.versions_of(pool, key, out),
         "all" => st.all_versions(pool, out),
@@ -116,17 +116,17 @@ fn write(name: &str, i: u64, key: i32, st: State, pool: &mut [u8]) -> Option<Ans
     };
     let same = |dropped: Answer<usize>| dropped.map(|_| st);
     Some(match name {
-        "insert" => st.insert(pool, key, &DATA, Some(creator(i)), &none),
+        "insert" => st.insert(pool, key, Some(creator(i)), &none, &DATA),
         "insert-version" => st.insert_version(pool, key, &version),
-        "stamp" => st.mark_deleted_visible(pool, key, DELETER, &SNAPSHOT, &none),
-        "plain-stamp" => st.mark_deleted(pool, key, DELETER, Some(DELETER), &none),
+        "stamp" => st.mark_deleted_visible(pool, key, &SNAPSHOT, &none, DELETER),
+        "plain-stamp" => st.mark_deleted(pool, key, Some(DELETER), &none, DELETER),
         "plain-delete" => st.delete(pool, key, Some(DELETER), &none),
         "claim" => st.claim(pool, key, &SNAPSHOT, &none),
         "remove" => same(st.remove_all_versions(pool, key)),
-        "vacuum" => same(st.vacuum_deleted_versions(pool, 100, &none)),
+        "vacuum" => same(st.vacuum_deleted_versions(pool, &none, 100)),
         "vacuum-dropping" => {
             let (ids, states) = (&[creator(i)], &[ABORTED]);
-            same(st.vacuum_deleted_versions(pool, 100, &Statuses { ids, states }))
+            same(st.vacuum_deleted_versions(pool, &Statuses { ids, states }, 100))
         }
         _ => return None,
     })

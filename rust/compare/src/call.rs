@@ -139,7 +139,7 @@ pub fn ours(given: &Given, call: &Call) -> Outcome {
         Call::Check => calls::check(pool, st, words),
         Call::Lookup(k, s) => calls::find_visible(pool, st, *k, &snap(s), &lists, words),
         Call::Find(k) => calls::find(pool, st, *k, given.lists.current, &lists, words),
-        Call::Conflict(k, c, s) => calls::has_write_conflict(pool, st, *k, *c, &snap(s), words),
+        Call::Conflict(k, c, s) => calls::has_write_conflict(pool, st, *k, &snap(s), *c, words),
         Call::Versions(k) => calls::versions_of(pool, st, *k, out, words),
         Call::All => calls::all_versions(pool, st, out, words),
         Call::Visible(s) => calls::scan_visible(pool, st, &snap(s), &lists, out, words),

@@ -89,7 +89,7 @@ pub fn ours(given: &Given, op: &Op) -> Changed {
     let (st, current) = (given.state, given.lists.current);
     let lists = &statuses(given.lists);
     c.number = match op {
-        Op::Insert(k, data) => calls::insert(pool, st, *k, data, current, lists, words),
+        Op::Insert(k, data) => calls::insert(pool, st, *k, current, lists, data, words),
         Op::InsertVersion(v) => {
             let version = NewVersion {
                 creator: v.creator,
@@ -99,12 +99,12 @@ pub fn ours(given: &Given, op: &Op) -> Changed {
             };
             calls::insert_version(pool, st, v.key, &version, words)
         }
-        Op::Stamp(k, s, d) => calls::mark_deleted_visible(pool, st, *k, *d, &snap(s), lists, words),
-        Op::PlainStamp(k, d) => calls::mark_deleted(pool, st, *k, *d, current, lists, words),
+        Op::Stamp(k, s, d) => calls::mark_deleted_visible(pool, st, *k, &snap(s), lists, *d, words),
+        Op::PlainStamp(k, d) => calls::mark_deleted(pool, st, *k, current, lists, *d, words),
         Op::PlainDelete(k) => calls::delete(pool, st, *k, current, lists, words),
         Op::Claim(k, s) => calls::claim(pool, st, *k, &snap(s), lists, words),
         Op::Remove(k) => calls::remove_all_versions(pool, st, *k, words),
-        Op::Vacuum(bound) => calls::vacuum_deleted_versions(pool, st, *bound, lists, words),
+        Op::Vacuum(bound) => calls::vacuum_deleted_versions(pool, st, lists, *bound, words),
         _ => unreachable!("no writing call: {op:?}"),
     };
     c

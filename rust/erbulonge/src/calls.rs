@@ -26,8 +26,9 @@ mod ffi {
             ids: *const u64, ids_len: usize, states: *const u8, states_len: usize, answer: *mut u64,
         ) -> u8;
         pub fn erbulonge_has_write_conflict(
-            pool: *const u8, pool_len: usize, root: u32, used: u32, key: i32, seen: u64, xmax: u64,
-            active: *const u64, active_len: usize, has_current: bool, current: u64, answer: *mut u64,
+            pool: *const u8, pool_len: usize, root: u32, used: u32, key: i32, xmax: u64,
+            active: *const u64, active_len: usize, has_current: bool, current: u64,
+            seen: u64, answer: *mut u64,
         ) -> u8;
         pub fn erbulonge_versions_of(
             pool: *const u8, pool_len: usize, root: u32, used: u32, key: i32,
@@ -48,9 +49,9 @@ mod ffi {
             out: *mut u8, out_len: usize, answer: *mut u64,
         ) -> u8;
         pub fn erbulonge_insert(
-            pool: *mut u8, pool_len: usize, root: u32, used: u32, key: i32, body: *const u8, body_len: usize,
-            has_current: bool, current: u64,
-            ids: *const u64, ids_len: usize, states: *const u8, states_len: usize, answer: *mut u64,
+            pool: *mut u8, pool_len: usize, root: u32, used: u32, key: i32, has_current: bool, current: u64,
+            ids: *const u64, ids_len: usize, states: *const u8, states_len: usize,
+            body: *const u8, body_len: usize, answer: *mut u64,
         ) -> u8;
         pub fn erbulonge_insert_version(
             pool: *mut u8, pool_len: usize, root: u32, used: u32, key: i32, creator: u64,
@@ -58,14 +59,15 @@ mod ffi {
             body: *const u8, body_len: usize, answer: *mut u64,
         ) -> u8;
         pub fn erbulonge_mark_deleted_visible(
-            pool: *mut u8, pool_len: usize, root: u32, used: u32, key: i32, deleter: u64, xmax: u64,
+            pool: *mut u8, pool_len: usize, root: u32, used: u32, key: i32, xmax: u64,
             active: *const u64, active_len: usize, has_current: bool, current: u64,
-            ids: *const u64, ids_len: usize, states: *const u8, states_len: usize, answer: *mut u64,
+            ids: *const u64, ids_len: usize, states: *const u8, states_len: usize,
+            deleter: u64, answer: *mut u64,
         ) -> u8;
         pub fn erbulonge_mark_deleted(
-            pool: *mut u8, pool_len: usize, root: u32, used: u32, key: i32, deleter: u64,
-            has_current: bool, current: u64,
-            ids: *const u64, ids_len: usize, states: *const u8, states_len: usize, answer: *mut u64,
+            pool: *mut u8, pool_len: usize, root: u32, used: u32, key: i32, has_current: bool, current: u64,
+            ids: *const u64, ids_len: usize, states: *const u8, states_len: usize,
+            deleter: u64, answer: *mut u64,
         ) -> u8;
         pub fn erbulonge_delete(
             pool: *mut u8, pool_len: usize, root: u32, used: u32, key: i32, has_current: bool, current: u64,
@@ -80,8 +82,9 @@ mod ffi {
             pool: *mut u8, pool_len: usize, root: u32, used: u32, key: i32, answer: *mut u64,
         ) -> u8;
         pub fn erbulonge_vacuum_deleted_versions(
-            pool: *mut u8, pool_len: usize, root: u32, used: u32, bound: u64,
-            ids: *const u64, ids_len: usize, states: *const u8, states_len: usize, answer: *mut u64,
+            pool: *mut u8, pool_len: usize, root: u32, used: u32,
+            ids: *const u64, ids_len: usize, states: *const u8, states_len: usize,
+            bound: u64, answer: *mut u64,
         ) -> u8;
     }
 }
@@ -155,8 +158,8 @@ pub fn has_write_conflict(
     pool: &[u8],
     st: State,
     key: i32,
-    seen: u64,
     snapshot: &Snapshot,
+    seen: u64,
     answer: &mut Words,
 ) -> u8 {
     unsafe {
@@ -166,12 +169,12 @@ pub fn has_write_conflict(
             st.root,
             st.used,
             key,
-            seen,
             snapshot.xmax,
             snapshot.active.as_ptr(),
             snapshot.active.len(),
             snapshot.current.is_some(),
             snapshot.current.unwrap_or(0),
+            seen,
             answer.as_mut_ptr(),
         )
     }
@@ -254,9 +257,9 @@ pub fn insert(
     pool: &mut [u8],
     st: State,
     key: i32,
-    data: &[u8],
     current: Option<u64>,
     statuses: &Statuses,
+    data: &[u8],
     answer: &mut Words,
 ) -> u8 {
     unsafe {
@@ -266,14 +269,14 @@ pub fn insert(
             st.root,
             st.used,
             key,
-            data.as_ptr(),
-            data.len(),
             current.is_some(),
             current.unwrap_or(0),
             statuses.ids.as_ptr(),
             statuses.ids.len(),
             statuses.states.as_ptr(),
             statuses.states.len(),
+            data.as_ptr(),
+            data.len(),
             answer.as_mut_ptr(),
         )
     }
@@ -311,9 +314,9 @@ pub fn mark_deleted_visible(
     pool: &mut [u8],
     st: State,
     key: i32,
-    deleter: u64,
     snapshot: &Snapshot,
     statuses: &Statuses,
+    deleter: u64,
     answer: &mut Words,
 ) -> u8 {
     unsafe {
@@ -323,7 +326,6 @@ pub fn mark_deleted_visible(
             st.root,
             st.used,
             key,
-            deleter,
             snapshot.xmax,
             snapshot.active.as_ptr(),
             snapshot.active.len(),
@@ -333,6 +335,7 @@ pub fn mark_deleted_visible(
             statuses.ids.len(),
             statuses.states.as_ptr(),
             statuses.states.len(),
+            deleter,
             answer.as_mut_ptr(),
         )
     }
@@ -342,9 +345,9 @@ pub fn mark_deleted(
     pool: &mut [u8],
     st: State,
     key: i32,
-    deleter: u64,
     current: Option<u64>,
     statuses: &Statuses,
+    deleter: u64,
     answer: &mut Words,
 ) -> u8 {
     unsafe {
@@ -354,13 +357,13 @@ pub fn mark_deleted(
             st.root,
             st.used,
             key,
-            deleter,
             current.is_some(),
             current.unwrap_or(0),
             statuses.ids.as_ptr(),
             statuses.ids.len(),
             statuses.states.as_ptr(),
             statuses.states.len(),
+            deleter,
             answer.as_mut_ptr(),
         )
     }
@@ -437,8 +440,8 @@ pub fn remove_all_versions(pool: &mut [u8], st: State, key: i32, answer: &mut Wo
 pub fn vacuum_deleted_versions(
     pool: &mut [u8],
     st: State,
-    bound: u64,
     statuses: &Statuses,
+    bound: u64,
     answer: &mut Words,
 ) -> u8 {
     unsafe {
@@ -447,11 +450,11 @@ pub fn vacuum_deleted_versions(
             pool.len(),
             st.root,
             st.used,
-            bound,
             statuses.ids.as_ptr(),
             statuses.ids.len(),
             statuses.states.as_ptr(),
             statuses.states.len(),
+            bound,
             answer.as_mut_ptr(),
         )
     }

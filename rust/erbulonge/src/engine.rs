@@ -82,13 +82,13 @@ impl Port {
         let statuses = &Statuses { ids, states };
         self.state = match op {
             Op::Create => st.create(pool),
-            Op::Insert(key, data) => st.insert(pool, *key, data, current, statuses),
+            Op::Insert(key, data) => st.insert(pool, *key, current, statuses, data),
             Op::InsertVersion(v) => st.insert_version(pool, v.key, &new_version(v)),
             Op::Stamp(key, s, deleter) => {
-                st.mark_deleted_visible(pool, *key, *deleter, &snapshot(s), statuses)
+                st.mark_deleted_visible(pool, *key, &snapshot(s), statuses, *deleter)
             }
             Op::PlainStamp(key, deleter) => {
-                st.mark_deleted(pool, *key, *deleter, current, statuses)
+                st.mark_deleted(pool, *key, current, statuses, *deleter)
             }
             Op::PlainDelete(key) => st.delete(pool, *key, current, statuses),
             Op::Claim(key, s) => st.claim(pool, *key, &snapshot(s), statuses),
@@ -104,7 +104,7 @@ impl Port {
         let dropped = match op {
             Op::Remove(key) => st.remove_all_versions(pool, *key),
             Op::Vacuum(bound) => {
-                st.vacuum_deleted_versions(pool, *bound, &Statuses { ids, states })
+                st.vacuum_deleted_versions(pool, &Statuses { ids, states }, *bound)
             }
             _ => unreachable!("no call that drops versions: {op:?}"),
         };
@@ -125,7 +125,7 @@ impl Port {
                 .find_visible(pool, *key, &snapshot(s), &self.statuses())
                 .map(|f| self.version(*key, f)),
             Op::Conflict(key, seen, s) => st
-                .has_write_conflict(pool, *key, *seen, &snapshot(s))
+                .has_write_conflict(pool, *key, &snapshot(s), *seen)
                 .map(Ans::Flag),
             Op::Versions(key) => {
                 self.listing(|e, out| st.versions_of(&e.pool, *key, out), versions)

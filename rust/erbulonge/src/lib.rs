@@ -12,7 +12,7 @@
 //! let mut pool = vec![0; 64 * 4096];
 //! let none = Statuses::default();
 //! let tree = State { root: 0, used: 0 }.create(&mut pool)?;
-//! let tree = tree.insert(&mut pool, 7, b"room 7, 9:00", Some(5), &none)?;
+//! let tree = tree.insert(&mut pool, 7, Some(5), &none, b"room 7, 9:00")?;
 //!
 //! let first = Snapshot { xmax: 22, active: &[21], current: Some(20) };
 //! let second = Snapshot { xmax: 22, active: &[20], current: Some(21) };
@@ -229,11 +229,11 @@ impl State {
         self,
         pool: &[u8],
         key: i32,
-        seen: u64,
         snapshot: &Snapshot,
+        seen: u64,
     ) -> Answer<bool> {
         let mut words = [0; 8];
-        let number = calls::has_write_conflict(pool, self, key, seen, snapshot, &mut words);
+        let number = calls::has_write_conflict(pool, self, key, snapshot, seen, &mut words);
         answer(number, &words, flag)
     }
 
@@ -281,12 +281,12 @@ impl State {
         self,
         pool: &mut [u8],
         key: i32,
-        data: &[u8],
         current: Option<u64>,
         statuses: &Statuses,
+        data: &[u8],
     ) -> Answer<State> {
         let mut words = [0; 8];
-        let number = calls::insert(pool, self, key, data, current, statuses, &mut words);
+        let number = calls::insert(pool, self, key, current, statuses, data, &mut words);
         answer(number, &words, state)
     }
 
@@ -305,13 +305,13 @@ impl State {
         self,
         pool: &mut [u8],
         key: i32,
-        deleter: u64,
         snapshot: &Snapshot,
         statuses: &Statuses,
+        deleter: u64,
     ) -> Answer<State> {
         let mut words = [0; 8];
         let number =
-            calls::mark_deleted_visible(pool, self, key, deleter, snapshot, statuses, &mut words);
+            calls::mark_deleted_visible(pool, self, key, snapshot, statuses, deleter, &mut words);
         answer(number, &words, state)
     }
 
@@ -321,12 +321,12 @@ impl State {
         self,
         pool: &mut [u8],
         key: i32,
-        deleter: u64,
         current: Option<u64>,
         statuses: &Statuses,
+        deleter: u64,
     ) -> Answer<State> {
         let mut words = [0; 8];
-        let number = calls::mark_deleted(pool, self, key, deleter, current, statuses, &mut words);
+        let number = calls::mark_deleted(pool, self, key, current, statuses, deleter, &mut words);
         answer(number, &words, state)
     }
 
@@ -375,11 +375,11 @@ impl State {
     pub fn vacuum_deleted_versions(
         self,
         pool: &mut [u8],
-        bound: u64,
         statuses: &Statuses,
+        bound: u64,
     ) -> Answer<usize> {
         let mut words = [0; 8];
-        let number = calls::vacuum_deleted_versions(pool, self, bound, statuses, &mut words);
+        let number = calls::vacuum_deleted_versions(pool, self, statuses, bound, &mut words);
         answer(number, &words, count)
     }
 }

@@ -101,10 +101,10 @@ impl Tree {
 #[test]
 fn insert_and_find() {
     let mut tree = Tree::new(1, 4);
-    tree.done(|st, pool| st.insert(pool, -1, b"before", Some(5), &NONE));
-    tree.done(|st, pool| st.insert(pool, 0, b"after", None, &NONE));
+    tree.done(|st, pool| st.insert(pool, -1, Some(5), &NONE, b"before"));
+    tree.done(|st, pool| st.insert(pool, 0, None, &NONE, b"after"));
     tree.refused(Duplicate, |st, pool| {
-        st.insert(pool, 0, b"", Some(5), &NONE)
+        st.insert(pool, 0, Some(5), &NONE, b"")
     });
     let (st, pool) = (tree.state, &tree.pool);
     let [before, after] = [-1, 0].map(|key| st.find(pool, key, None, &NONE).unwrap());
@@ -134,7 +134,7 @@ fn insert_version_as_it_is() {
 fn data_at_its_limit() {
     let mut tree = Tree::new(1, 4);
     let long = vec![7; 4052];
-    tree.refused(BadData, |st, pool| st.insert(pool, 7, &long, None, &NONE));
+    tree.refused(BadData, |st, pool| st.insert(pool, 7, None, &NONE, &long));
     tree.refused(BadData, |st, pool| {
         st.insert_version(pool, 7, &live(1, &long))
     });
@@ -166,7 +166,7 @@ fn no_cut_fits() {
         st.insert_version(pool, 2, &live(1, &middle))
     });
     tree.refused(Undividable, |st, pool| {
-        st.insert(pool, 2, &middle, None, &NONE)
+        st.insert(pool, 2, None, &NONE, &middle)
     });
 }
 
@@ -177,7 +177,7 @@ fn stamp_divides() {
     tree.row(1, 2042 - 19);
     tree.row(2, 2042 - 19);
     assert_eq!(tree.state.used, 1);
-    tree.done(|st, pool| st.mark_deleted(pool, 1, 9, Some(1), &NONE));
+    tree.done(|st, pool| st.mark_deleted(pool, 1, Some(1), &NONE, 9));
     assert_eq!([tree.bytes(0), tree.bytes(1)], [2050, 2042]);
     assert_eq!(tree.deleter(1), Some(9));
 }
@@ -263,16 +263,16 @@ fn stamps() {
     for key in 1..=4 {
         tree.row(key, 2);
     }
-    tree.done(|st, pool| st.mark_deleted_visible(pool, 1, 30, &snapshot(None), &NONE));
-    tree.done(|st, pool| st.mark_deleted(pool, 2, 31, None, &NONE));
+    tree.done(|st, pool| st.mark_deleted_visible(pool, 1, &snapshot(None), &NONE, 30));
+    tree.done(|st, pool| st.mark_deleted(pool, 2, None, &NONE, 31));
     tree.done(|st, pool| st.delete(pool, 3, Some(32), &NONE));
     tree.done(|st, pool| st.delete(pool, 4, None, &NONE));
     let stamps = [1, 2, 3, 4].map(|key| tree.deleter(key));
     assert_eq!(stamps, [Some(30), Some(31), Some(32), Some(0)]);
     tree.refused(Absent, |st, pool| {
-        st.mark_deleted_visible(pool, 5, 30, &snapshot(None), &NONE)
+        st.mark_deleted_visible(pool, 5, &snapshot(None), &NONE, 30)
     });
-    tree.refused(Absent, |st, pool| st.mark_deleted(pool, 2, 8, None, &NONE));
+    tree.refused(Absent, |st, pool| st.mark_deleted(pool, 2, None, &NONE, 8));
     tree.refused(Absent, |st, pool| st.delete(pool, 4, Some(32), &NONE));
 }
 
@@ -300,9 +300,9 @@ fn remove_and_vacuum() {
     tree.row(6, 2);
     let (st, pool) = (tree.state, &mut tree.pool);
     // 6 is committed but not below the bound; 9 is not listed.
-    assert_eq!(st.vacuum_deleted_versions(pool, 6, &statuses), Ok(1));
-    assert_eq!(st.vacuum_deleted_versions(pool, 10, &statuses), Ok(1));
-    assert_eq!(st.vacuum_deleted_versions(pool, 10, &statuses), Ok(0));
+    assert_eq!(st.vacuum_deleted_versions(pool, &statuses, 6), Ok(1));
+    assert_eq!(st.vacuum_deleted_versions(pool, &statuses, 10), Ok(1));
+    assert_eq!(st.vacuum_deleted_versions(pool, &statuses, 10), Ok(0));
     // Creator 2 is live again.
     assert_eq!(st.versions_of(pool, 5, &mut [0; 200]), Ok(3 * 26 + 2 * 8));
     assert_eq!(st.remove_all_versions(pool, 5), Ok(3));
@@ -325,14 +325,14 @@ fn refusals_in_order() {
     let mut tree = Tree::new(1, 4);
     tree.pool[0] = 2;
     tree.state.used = 5;
-    tree.refused(BadPool, |st, pool| st.insert(pool, 7, &long, None, &bad));
+    tree.refused(BadPool, |st, pool| st.insert(pool, 7, None, &bad, &long));
     tree.refused(BadPool, |st, pool| {
         st.insert_version(pool, 7, &live(1, &long))
     });
     tree.refused(BadPool, |st, pool| st.claim(pool, 7, &falling, &bad));
     tree.refused(BadPool, |st, pool| st.remove_all_versions(pool, 7));
     tree.refused(BadPool, |st, pool| {
-        st.vacuum_deleted_versions(pool, 7, &bad)
+        st.vacuum_deleted_versions(pool, &bad, 7)
     });
     tree.state.used = 1;
     for current in [None, Some(0)] {
@@ -342,23 +342,23 @@ fn refusals_in_order() {
     }
     tree.refused(BadSnapshot, |st, pool| st.claim(pool, 7, &falling, &bad));
     tree.refused(BadSnapshot, |st, pool| {
-        st.mark_deleted_visible(pool, 7, 1, &falling, &bad)
+        st.mark_deleted_visible(pool, 7, &falling, &bad, 1)
     });
     tree.refused(BadStatuses, |st, pool| {
         st.claim(pool, 7, &snapshot(Some(15)), &bad)
     });
     tree.refused(BadStatuses, |st, pool| {
-        st.mark_deleted(pool, 7, 1, None, &bad)
+        st.mark_deleted(pool, 7, None, &bad, 1)
     });
     tree.refused(BadStatuses, |st, pool| st.delete(pool, 7, None, &bad));
     tree.refused(BadStatuses, |st, pool| {
-        st.vacuum_deleted_versions(pool, 7, &bad)
+        st.vacuum_deleted_versions(pool, &bad, 7)
     });
     tree.refused(BadStatuses, |st, pool| {
-        st.insert(pool, 7, &long, None, &bad)
+        st.insert(pool, 7, None, &bad, &long)
     });
-    tree.refused(BadData, |st, pool| st.insert(pool, 7, &long, None, &NONE));
-    tree.refused(BadTree, |st, pool| st.insert(pool, 7, b"", None, &NONE));
+    tree.refused(BadData, |st, pool| st.insert(pool, 7, None, &NONE, &long));
+    tree.refused(BadTree, |st, pool| st.insert(pool, 7, None, &NONE, b""));
     tree.refused(BadTree, |st, pool| {
         st.insert_version(pool, 7, &live(1, b""))
     });

@@ -1,5 +1,5 @@
-//! Data that the list names by length and seed: crates/pages/src/data.rt makes
-//! the same bytes.
+//! Data that the list names by length and seed:
+//! crates/test_histories/src/data.rt makes the same bytes.
 
 #[derive(Clone, Copy)]
 pub struct Data {

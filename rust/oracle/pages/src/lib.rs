@@ -1,5 +1,5 @@
 //! The recorded pages of aerodb's leaves and internal pages. The program
-//! crates/pages makes the same calls of the port's page functions.
+//! crates/test_histories makes the same calls of the port.
 mod data;
 mod histories;
 mod pieces;
@@ -10,7 +10,7 @@ use recorder::Recorder;
 
 const ABOUT: &str = "\
 # Pages as aerodb's own code stored them, after each of some calls. Made in the folder rust with
-#   cargo run --offline --release -p pages > ../crates/pages/stdin
+#   cargo run --offline --release -p pages > ../crates/test_histories/stdin
 #
 # Numbers are hexadecimal, a key is its 32 bits, and - is an absent stamp or pointer. The status list is 3 aborted,
 # 4 committed, 6 active, 8 aborted, 9 committed; a snapshot's active list is 7, and it has no current transaction.

@@ -1,5 +1,5 @@
 //! Writes the list to standard output or, given the word `counts`, what the
-//! program `pages` is to print on it.
+//! program `test_histories` is to print on it.
 
 fn main() {
     let recorded = pages::recorded();

@@ -1,9 +1,9 @@
-//! What is recorded for the program `pages` is what is made now.
+//! What is recorded for the program `test_histories` is what is made now.
 use std::fs;
 
 fn recorded(name: &str) -> String {
     let crates = concat!(env!("CARGO_MANIFEST_DIR"), "/../../../crates");
-    fs::read_to_string(format!("{crates}/pages/{name}")).expect(name)
+    fs::read_to_string(format!("{crates}/test_histories/{name}")).expect(name)
 }
 
 #[test]

@@ -12,7 +12,7 @@ use wire::text::hex;
 const ABOUT: &str = "\
 # Cell cases: versions with the leaf cell that is written for each (w), and bytes with what a
 # reader answers for the cell at an offset (r). Made in the folder rust, by aerodb's own code, with
-#   cargo run --offline --release -p vectors > ../crates/cases/stdin
+#   cargo run --offline --release -p vectors > ../crates/test_cells/stdin
 #
 # w SOURCE KEY CREATOR STAMP POINTER DATA CELL
 # r SOURCE BYTES AT cell KEY CREATOR STAMP POINTER START LEN NEXT

@@ -2,11 +2,14 @@
 use std::collections::HashSet;
 use std::fs;
 
-const RECORDED: &str = concat!(env!("CARGO_MANIFEST_DIR"), "/../../../crates/cases/stdin");
+const RECORDED: &str = concat!(
+    env!("CARGO_MANIFEST_DIR"),
+    "/../../../crates/test_cells/stdin"
+);
 
 #[test]
 fn recorded_list_is_current() {
-    let recorded = fs::read_to_string(RECORDED).expect("crates/cases/stdin");
+    let recorded = fs::read_to_string(RECORDED).expect("crates/test_cells/stdin");
     let made = vectors::list();
     let lines = recorded.lines().zip(made.lines()).enumerate();
     for (i, (recorded, made)) in lines {

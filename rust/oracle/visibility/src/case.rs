@@ -1,5 +1,5 @@
 //! The cases: a snapshot, a status list, one version and a seen creator.
-//! crates/visibility/src/case.rt draws the same ones, choice by choice.
+//! crates/test_visibility/src/case.rt draws the same ones, choice by choice.
 use crate::draw::Draw;
 use std::collections::BTreeSet;
 use wire::{Snap, Version};

@@ -1,4 +1,4 @@
-//! The source of numbers. crates/visibility/src/draw.rt is the same in Rattle:
+//! The source of numbers. crates/test_visibility/src/draw.rt is the same in Rattle:
 //! no product passes 64 bits, so that it needs no arithmetic that wraps.
 
 pub struct Draw(u32);

@@ -1,5 +1,5 @@
 //! The recorded answers of aerodb's visibility and conflict rules on drawn
-//! cases. The program crates/visibility draws the same cases for the port's.
+//! cases. The program crates/test_visibility draws the same cases for the port's.
 mod case;
 mod draw;
 
@@ -16,11 +16,11 @@ const WIDTH: usize = 100;
 const ABOUT: &str = "\
 # What aerodb's own code answers for each of 120000 cases: is_visible of one version, and
 # has_write_conflict of a tree that holds just that version. Made in the folder rust with
-#   cargo run --offline --release -p visibility > ../crates/visibility/stdin
+#   cargo run --offline --release -p visibility > ../crates/test_visibility/stdin
 #
 # A digit is a case: 1 for visible, and 2 more for a conflict. The cases themselves are not recorded:
-# case.rs in rust/oracle/visibility/src and case.rt in crates/visibility/src draw the same ones, each
-# choice among n as x modulo n, where x begins as 1 and becomes 48271 x modulo 2^31 - 1 at each choice.
+# case.rs in rust/oracle/visibility/src and case.rt in crates/test_visibility/src draw the same ones,
+# each choice among n as x modulo n; x begins as 1 and becomes 48271 x modulo 2^31 - 1 at each choice.
 ";
 
 /// A case and the digit for it.

@@ -1,5 +1,5 @@
 //! Writes the recorded answers to standard output or, given the word `counts`,
-//! what the program `visibility` is to print on them.
+//! what the program `test_visibility` is to print on them.
 
 fn main() {
     let cases = visibility::cases();
