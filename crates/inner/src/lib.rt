@@ -97,7 +97,7 @@ fn first_from(pg: &[u8], n: usize, bound: u64) -> usize
 }
 
 // The place of the child that search goes to: left on key ≤ separator.
-pub fn search_route(pg: &[u8], n: usize, key: u32) -> usize
+pub fn leftmost_child_for_key(pg: &[u8], n: usize, key: u32) -> usize
     requires { ⌜ (n ≤ 510) × (length (now pg) ≡ 4096) × (neverFalls 0 (keysFrom 0 n (now pg)) ≡ true) ⌝ }
     ensures { λ r. ⌜ (r ≡ searchRoute key (keysFrom 0 n (now (pg .entry)))) × (r ≤ n) ⌝ }
 {
@@ -105,7 +105,7 @@ pub fn search_route(pg: &[u8], n: usize, key: u32) -> usize
 }
 
 // The place of the child that insertion goes to: left only on key < separator.
-pub fn insert_route(pg: &[u8], n: usize, key: u32) -> usize
+pub fn child_for_key(pg: &[u8], n: usize, key: u32) -> usize
     requires { ⌜ (n ≤ 510) × (length (now pg) ≡ 4096) × (neverFalls 0 (keysFrom 0 n (now pg)) ≡ true) ⌝ }
     ensures { λ r. ⌜ (r ≡ insertRoute key (keysFrom 0 n (now (pg .entry)))) × (r ≤ n) ⌝ }
 {

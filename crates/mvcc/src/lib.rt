@@ -40,7 +40,7 @@ fn is_current(cur: Current, tx: u64) -> bool
 }
 
 // With the state already looked up, so that a creator's is looked up once.
-fn finished_with(xmax: u64, active: &[u64], state: u8, tx: u64) -> bool
+fn committed_before_snapshot(xmax: u64, active: &[u64], state: u8, tx: u64) -> bool
     requires { ⌜ rising (now active) ≡ true ⌝ }
     ensures { λ r. ⌜ r ≡ finishedWith xmax (now (active .entry)) state tx ⌝ }
 {
@@ -101,7 +101,7 @@ fn hides(
                 return true;
             }
             let other = state_beside(ids, states, creator, state, d);
-            finished_with(xmax, active, other, d)
+            committed_before_snapshot(xmax, active, other, d)
         }
         Stamp::Absent => false,
     }
@@ -128,7 +128,7 @@ pub fn is_visible(
         let own = own_stamp(cur, stamp);
         return !own;
     }
-    if finished_with(xmax, active, state, creator) {
+    if committed_before_snapshot(xmax, active, state, creator) {
         let hidden = hides(xmax, active, cur, ids, states, creator, state, stamp);
         return !hidden;
     }

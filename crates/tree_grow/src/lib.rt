@@ -53,7 +53,14 @@ fn join(pool: &mut [u8], p: u32, i: usize, n: usize, old: u32, sep: u32, new: u3
 }
 
 // The separator and the page new are entered above page `level` of the path.
-fn enter(pool: &mut [u8], st: State, path: Path, level: usize, sep: u32, new: u32) -> State
+fn insert_in_parent(
+    pool: &mut [u8],
+    st: State,
+    path: Path,
+    level: usize,
+    sep: u32,
+    new: u32,
+) -> State
     requires { ⌜ (level < path .len) × (path .len ≤ 4) × EnterSafe (pagesAbove path level) (pageAt path level) sep new (grown (now pool) st) ⌝ }
     ensures { λ r. ⌜ grown (now (pool .exit)) r ≡ enterOf (pagesAbove path level) (pageAt path level) sep new (grown (now (pool .entry)) st) ⌝ }
 {
@@ -70,11 +77,19 @@ fn enter(pool: &mut [u8], st: State, path: Path, level: usize, sep: u32, new: u3
         return st;
     }
     inner_edit::adopt_one(pool, new, p);
-    divide(pool, st, path, level + 1, i, sep, new)
+    split_internal(pool, st, path, level + 1, i, sep, new)
 }
 
 // Page `at` of the path has 510 keys and a pair to come after its child i: its right half is entered above it.
-fn divide(pool: &mut [u8], st: State, path: Path, at: usize, i: usize, sep: u32, new: u32) -> State
+fn split_internal(
+    pool: &mut [u8],
+    st: State,
+    path: Path,
+    at: usize,
+    i: usize,
+    sep: u32,
+    new: u32,
+) -> State
     requires { ⌜ (at < path .len) × (path .len ≤ 4) × DivideSafe (pagesAbove path at) (pageAt path at) i sep new (grown (now pool) st) ⌝ }
     ensures { λ r. ⌜ grown (now (pool .exit)) r ≡ divideOf (pagesAbove path at) (pageAt path at) i sep new (grown (now (pool .entry)) st) ⌝ }
 {
@@ -84,7 +99,7 @@ fn divide(pool: &mut [u8], st: State, path: Path, at: usize, i: usize, sep: u32,
     let after = a.state;
     let middle = inner_edit::divide(pool, p, q, i, sep, new);
     inner_edit::adopt(pool, inner_edit::KEPT_CHILDREN, 0, q, q);
-    enter(pool, after, path, at, middle, q)
+    insert_in_parent(pool, after, path, at, middle, q)
 }
 
 fn move_page(pool: &mut [u8], fixed: u32, z: u32)
@@ -125,7 +140,7 @@ fn write_root(pool: &mut [u8], fixed: u32, left: u32, sep: u32, right: u32)
 }
 
 // The root's number stays: its old image goes to one more page, and what the new top holds goes to it.
-fn pin(pool: &mut [u8], st: State, fixed: u32) -> State
+fn pin_root(pool: &mut [u8], st: State, fixed: u32) -> State
     requires { ⌜ PinSafe fixed (grown (now pool) st) ⌝ }
     ensures { λ r. ⌜ grown (now (pool .exit)) r ≡ pinOf fixed (grown (now (pool .entry)) st) ⌝ }
 {
@@ -155,7 +170,7 @@ fn keep_root(pool: &mut [u8], st: State, original: u32) -> State
     if st.root == original {
         return st;
     }
-    pin(pool, st, original)
+    pin_root(pool, st, original)
 }
 
 // The leaf at the path's start has divided, and page q is its right side, whose first key goes up.
@@ -166,6 +181,6 @@ pub fn settle(pool: &mut [u8], st: State, path: Path, q: u32) -> State
 {
     let sep = page::key::get_rank(page::pool::page_of(pool, q), page::HEADER_SIZE);
     let root = st.root;
-    let after = enter(pool, st, path, 0, sep, q);
+    let after = insert_in_parent(pool, st, path, 0, sep, q);
     keep_root(pool, after, root)
 }

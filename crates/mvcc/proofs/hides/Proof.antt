@@ -18,8 +18,8 @@ returns c = hidden-own _ _ _ _ (c .before .before .before .stamp .given .1) (sym
 state-beside-requires : tie.Need-state-beside-requires
 state-beside-requires c κs = search needs
 
-finished-with-requires : tie.Need-finished-with-requires
-finished-with-requires c κs = search needs
+committed-before-snapshot-requires : tie.Need-committed-before-snapshot-requires
+committed-before-snapshot-requires c κs = search needs
 
 enum-told : tie.Need-enum-told
 enum-told c = search needs
@@ -27,7 +27,7 @@ enum-told c = search needs
 returns-2 : tie.Need-returns-2
 returns-2 c =
     let at = c .before .before .before in
-    c .finished-with .ensures
+    c .committed-before-snapshot .ensures
     ∙ hidden-else _ _ _ _ (at .before .before .stamp .given .1) (sym (at .is-current .ensures) ∙ c .before .before .if1 .left) _ (c .before .state-beside .ensures)
 
 returns-3 : tie.Need-returns-3
@@ -41,7 +41,7 @@ hides-spec =
     is-current-requires
     returns
     state-beside-requires
-    finished-with-requires
+    committed-before-snapshot-requires
     enum-told
     returns-2
     returns-3)

@@ -24,8 +24,8 @@ returns-2 c =
     let at = c .before .before in
     ap not (c .own-stamp .ensures) ∙ seen-own _ _ _ _ _ (at .before .before .status-of .ensures) (search needs) (sym (at .is-current .ensures) ∙ c .before .if2 .taken)
 
-finished-with-requires : tie.Need-finished-with-requires
-finished-with-requires c κs = search needs
+committed-before-snapshot-requires : tie.Need-committed-before-snapshot-requires
+committed-before-snapshot-requires c κs = search needs
 
 hides-requires : tie.Need-hides-requires
 hides-requires c κs = search needs
@@ -34,12 +34,12 @@ returns-3 : tie.Need-returns-3
 returns-3 c =
     let at = c .before .before .before .before in
     ap not (c .hides .ensures)
-    ∙ seen-else _ _ _ _ _ (at .before .before .status-of .ensures) (search needs) (sym (at .is-current .ensures) ∙ c .before .before .before .if2 .left) (sym (c .before .before .finished-with .ensures) ∙ c .before .if3 .taken)
+    ∙ seen-else _ _ _ _ _ (at .before .before .status-of .ensures) (search needs) (sym (at .is-current .ensures) ∙ c .before .before .before .if2 .left) (sym (c .before .before .committed-before-snapshot .ensures) ∙ c .before .if3 .taken)
 
 returns-4 : tie.Need-returns-4
 returns-4 c =
     let at = c .before .before .before in
-    unseen-unfinished _ _ _ _ _ (at .before .before .status-of .ensures) (search needs) (sym (at .is-current .ensures) ∙ c .before .before .if2 .left) (sym (c .before .finished-with .ensures) ∙ c .if3 .left)
+    unseen-unfinished _ _ _ _ _ (at .before .before .status-of .ensures) (search needs) (sym (at .is-current .ensures) ∙ c .before .before .if2 .left) (sym (c .before .committed-before-snapshot .ensures) ∙ c .if3 .left)
 
 pub is-visible-spec : {M : Type 1} → statement M
 is-visible-spec =
@@ -50,7 +50,7 @@ is-visible-spec =
     is-current-requires
     own-stamp-requires
     returns-2
-    finished-with-requires
+    committed-before-snapshot-requires
     hides-requires
     returns-3
     returns-4)

@@ -11,8 +11,8 @@ page-of-requires c κs = search needs
 enum-known-route : tie.Need-enum-known-route
 enum-known-route c = search needs
 
-search-route-requires : tie.Need-search-route-requires
-search-route-requires c κs = (omega arith, c .before .before .before .page-of .ensures .1, rw (c .before .before .before .page-of .ensures .0) (c .before .before .before .before .before .pre .2))
+leftmost-child-for-key-requires : tie.Need-leftmost-child-for-key-requires
+leftmost-child-for-key-requires c κs = (omega arith, c .before .before .before .page-of .ensures .1, rw (c .before .before .before .page-of .ensures .0) (c .before .before .before .before .before .pre .2))
 
 child-at-requires : tie.Need-child-at-requires
 child-at-requires c κs = search needs
@@ -20,8 +20,8 @@ child-at-requires c κs = search needs
 enum-known-route-2 : tie.Need-enum-known-route-2
 enum-known-route-2 c = search needs
 
-insert-route-requires : tie.Need-insert-route-requires
-insert-route-requires c κs = (omega arith, c .before .before .before .page-of .ensures .1, rw (c .before .before .before .page-of .ensures .0) (c .before .before .before .before .before .pre .2))
+child-for-key-requires : tie.Need-child-for-key-requires
+child-for-key-requires c κs = (omega arith, c .before .before .before .page-of .ensures .1, rw (c .before .before .before .page-of .ensures .0) (c .before .before .before .before .before .pre .2))
 
 child-at-requires-2 : tie.Need-child-at-requires-2
 child-at-requires-2 c κs = search needs
@@ -33,10 +33,10 @@ child-at-requires-3 : tie.Need-child-at-requires-3
 child-at-requires-3 c κs = search needs
 
 returns : tie.Need-returns
-returns c = child-search _ _ _ (c .before .before .before .before .before .page-of .ensures .0) (c .before .before .before .route .given .1) (c .before .search-route .ensures .0) (c .child-at .ensures)
+returns c = child-search _ _ _ (c .before .before .before .before .before .page-of .ensures .0) (c .before .before .before .route .given .1) (c .before .leftmost-child-for-key .ensures .0) (c .child-at .ensures)
 
 returns-2 : tie.Need-returns-2
-returns-2 c = child-insert _ _ _ (c .before .before .before .before .before .page-of .ensures .0) (c .before .before .before .route2 .given .1) (c .before .insert-route .ensures .0) (c .child-at2 .ensures)
+returns-2 c = child-insert _ _ _ (c .before .before .before .before .before .page-of .ensures .0) (c .before .before .before .route2 .given .1) (c .before .child-for-key .ensures .0) (c .child-at2 .ensures)
 
 returns-3 : tie.Need-returns-3
 returns-3 c = child-first _ _ _ (c .before .before .before .page-of .ensures .0) (c .before .enum-told .given .1) (c .child-at3 .ensures)
@@ -47,10 +47,10 @@ next-child-spec =
     (tie.spec
     page-of-requires
     enum-known-route
-    search-route-requires
+    leftmost-child-for-key-requires
     child-at-requires
     enum-known-route-2
-    insert-route-requires
+    child-for-key-requires
     child-at-requires-2
     enum-told
     child-at-requires-3

@@ -11,21 +11,21 @@ page-of-requires c κs = search needs
 get-rank-requires : tie.Need-get-rank-requires
 get-rank-requires c κs = search needs
 
-enter-requires : tie.Need-enter-requires
-enter-requires c κs =
+insert-in-parent-requires : tie.Need-insert-in-parent-requires
+insert-in-parent-requires c κs =
     let a = c .before .before .before .before .before in
     (omega arith, omega arith, settle-enters _ _ _ _ _ (c .before .before .page-of .ensures .0) (c .before .get-rank .ensures) (a .pre .1))
 
 keep-root-requires : tie.Need-keep-root-requires
 keep-root-requires c κs =
     let a = c .before .before .before .before .before .before .before .before .before in
-    settle-keeps _ _ _ _ _ (c .before .before .before .before .before .before .page-of .ensures .0) (c .before .before .before .before .before .get-rank .ensures) (a .pre .1) (c .before .before .before .enter .ensures)
+    settle-keeps _ _ _ _ _ (c .before .before .before .before .before .before .page-of .ensures .0) (c .before .before .before .before .before .get-rank .ensures) (a .pre .1) (c .before .before .before .insert-in-parent .ensures)
 
 same-length : tie.Need-same-length
 same-length c = search needs
 
 returns : tie.Need-returns
-returns c = settle-done _ _ _ _ _ (c .before .before .before .before .before .before .before .before .before .page-of .ensures .0) (c .before .before .before .before .before .before .before .before .get-rank .ensures) (c .before .before .before .before .before .before .enter .ensures) (c .before .before .keep-root .ensures)
+returns c = settle-done _ _ _ _ _ (c .before .before .before .before .before .before .before .before .before .page-of .ensures .0) (c .before .before .before .before .before .before .before .before .get-rank .ensures) (c .before .before .before .before .before .before .insert-in-parent .ensures) (c .before .before .keep-root .ensures)
 
 pub settle-spec : {M : Type 1} → statement M
 settle-spec =
@@ -33,7 +33,7 @@ settle-spec =
     (tie.spec
     page-of-requires
     get-rank-requires
-    enter-requires
+    insert-in-parent-requires
     keep-root-requires
     same-length
     returns)

@@ -1,10 +1,10 @@
--- `mvcc::finished_with` meets its contract, test by test.
+-- `mvcc::committed_before_snapshot` meets its contract, test by test.
 -- Assumes nothing.
 use mathlib.Core.Path.{sym, _∙_}
 use borrow.Author.Needs.{needs}
 use Rattle.mvcc.proofs.RuleLaws.{finished-zero, unfinished-late, unfinished-running, unfinished-aborted, unfinished-active, finished-else}
-use Rattle.mvcc.proofs.finished_with.Statement.{statement}
-use Rattle.mvcc.proofs.finished_with.Tie as tie
+use Rattle.mvcc.proofs.committed_before_snapshot.Statement.{statement}
+use Rattle.mvcc.proofs.committed_before_snapshot.Tie as tie
 
 returns : tie.Need-returns
 returns c = finished-zero _ _ _ _ (search needs)
@@ -27,7 +27,7 @@ returns-5 c = unfinished-active _ _ _ _ (search needs) (sym (c .before .in-activ
 returns-6 : tie.Need-returns-6
 returns-6 c = finished-else _ _ _ _ (search needs) (search needs) (search needs) (search needs) (sym (c .before .in-active .ensures) ∙ c .if5 .left)
 
-pub finished-with-spec : {M : Type 1} → statement M
-finished-with-spec =
+pub committed-before-snapshot-spec : {M : Type 1} → statement M
+committed-before-snapshot-spec =
     tie.close
     (tie.spec returns returns-2 returns-3 returns-4 in-active-requires returns-5 returns-6)

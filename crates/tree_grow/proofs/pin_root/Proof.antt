@@ -1,10 +1,10 @@
--- `tree_grow::pin` meets its contract: what the stores need stands in `PinIs`, and they are one law of Pinning. Assumes nothing.
+-- `tree_grow::pin_root` meets its contract: what the stores need stands in `PinIs`, and they are one law of Pinning. Assumes nothing.
 use native.Mathlib.Omega.{arith}
 use Rattle.page.proofs.PoolLaws.{alloc-page}
 use Rattle.tree_grow.proofs.Pinning.{pin-is, pin-done}
 use borrow.Author.Needs.{needs}
-use Rattle.tree_grow.proofs.pin.Statement.{statement}
-use Rattle.tree_grow.proofs.pin.Tie as tie
+use Rattle.tree_grow.proofs.pin_root.Statement.{statement}
+use Rattle.tree_grow.proofs.pin_root.Tie as tie
 
 page-of-requires : tie.Need-page-of-requires
 page-of-requires c κs = let is = pin-is _ _ _ (c .before .before .pre) in is .top
@@ -36,8 +36,8 @@ same-length c = search needs
 returns : tie.Need-returns
 returns c = pin-done _ _ _ (c .before .before .before .before .before .before .before .before .before .before .before .before .before .before .before .before .before .before .before .before .before .before .before .page-of .ensures .0) (c .before .before .before .before .before .before .before .before .before .before .before .before .before .before .before .before .before .before .before .before .before .before .key-at .ensures) (c .before .before .before .before .before .before .before .before .before .before .before .before .before .before .before .before .before .before .before .before .before .child-at .ensures) (c .before .before .before .before .before .before .before .before .before .before .before .before .before .before .before .before .before .before .before .allocate .ensures .0) (c .before .before .before .before .before .before .before .before .before .before .before .before .before .before .before .before .before .before .before .allocate .ensures .1) (c .before .before .before .before .before .before .before .before .before .before .before .before .before .before .move-page .ensures) (c .before .before .before .before .before .before .before .before .before .before .relink .ensures) (c .before .before .before .before .before .before .write-root .ensures) (c .before .before .link-both .ensures)
 
-pub pin-spec : {M : Type 1} → statement M
-pin-spec =
+pub pin-root-spec : {M : Type 1} → statement M
+pin-root-spec =
     tie.close
     (tie.spec
     page-of-requires

@@ -1,4 +1,4 @@
--- `tree_grow::divide` and `tree_grow::enter` meet their contracts, by the levels that are left: each way out is one law of Entering.
+-- `tree_grow::insert_in_parent` and `tree_grow::split_internal` meet their contracts, by the levels that are left: each way out is one law of Entering.
 -- Assumes nothing.
 use mathlib.Core.Path.{_∙_, ap}
 use Prim.Native.Nat.{ℕ, _+_, _-_, _*_, _<_}
@@ -9,12 +9,12 @@ use Rattle.tree_grow.proofs.Entering.{pages-top, pages-more, halved-fre
 use borrow.Author.Needs.{needs}
 use borrow.Fn.Kinds.{In}
 use borrow.Fn.PlainCycle.{Measures, is, falls, and}
-use Rattle.tree_grow.proofs.divide.Reads as divide
-use Rattle.tree_grow.proofs.divide.Kinds as divide-kinds
-use Rattle.tree_grow.proofs.+divide+enter.Lts-divide as divide-lts
-use Rattle.tree_grow.proofs.enter.Reads as enter
-use Rattle.tree_grow.proofs.enter.Kinds as enter-kinds
-use Rattle.tree_grow.proofs.+divide+enter.Lts-enter as enter-lts
+use Rattle.tree_grow.proofs.split_internal.Reads as divide
+use Rattle.tree_grow.proofs.split_internal.Kinds as divide-kinds
+use Rattle.tree_grow.proofs.+insert_in_parent+split_internal.Lts-split_internal as divide-lts
+use Rattle.tree_grow.proofs.insert_in_parent.Reads as enter
+use Rattle.tree_grow.proofs.insert_in_parent.Kinds as enter-kinds
+use Rattle.tree_grow.proofs.+insert_in_parent+split_internal.Lts-insert_in_parent as enter-lts
 use Rattle.tree_grow.proofs.grow_top.Reads as grow-top-reads
 use Rattle.tree_grow.proofs.join.Reads as join-reads
 use Rattle.inner.proofs.child_place.Reads as child-place-reads
@@ -24,8 +24,8 @@ use Rattle.inner_edit.proofs.divide.Reads as divide-reads
 use Rattle.page.proofs.get_cell_count.Reads as get-cell-count-reads
 use Rattle.page.proofs.pool.allocate.Reads as allocate-reads
 use Rattle.page.proofs.pool.page_of.Reads as page-of-reads
-use Rattle.tree_grow.proofs.+divide+enter.{statement}
-use Rattle.tree_grow.proofs.+divide+enter.Tie.{close}
+use Rattle.tree_grow.proofs.+insert_in_parent+split_internal.{statement}
+use Rattle.tree_grow.proofs.+insert_in_parent+split_internal.Tie.{close}
 
 abbrev μ-divide : Measures 1 divide-kinds.ps ℕ
 μ-divide κs a = 2 * (a .1 .1 .0 .len - (a .1 .1 .1 .0 + 1)) + 1
@@ -48,48 +48,48 @@ enter-below t = and 1 enter-kinds.ps (falls 1 enter-kinds.ps _<_ μ-enter t) ent
 abbrev divide-calls : ℕ → divide-lts.Claims
 divide-calls t = (allocate-reads.Asked, allocate-reads.Learnt, divide-reads.Asked, divide-reads.Learnt, adopt-reads.Asked, adopt-reads.Learnt, enter-below t, enter.Post)
 
-divide-mul-p : (t : ℕ) → divide-lts.Need-mul-p (divide-calls t) (divide-at t) divide.Post
-divide-mul-p t c = search needs
+split-mul-p : (t : ℕ) → divide-lts.Need-mul-p (divide-calls t) (divide-at t) divide.Post
+split-mul-p t c = search needs
 
-divide-element-copy-out-p : (t : ℕ) → divide-lts.Need-element-copy-out-p (divide-calls t) (divide-at t) divide.Post
-divide-element-copy-out-p t c = search needs
+split-element-copy-out-p : (t : ℕ) → divide-lts.Need-element-copy-out-p (divide-calls t) (divide-at t) divide.Post
+split-element-copy-out-p t c = search needs
 
-divide-allocate-requires : (t : ℕ) → divide-lts.Need-allocate-requires (divide-calls t) (divide-at t) divide.Post
-divide-allocate-requires t c κs =
+split-allocate-requires : (t : ℕ) → divide-lts.Need-allocate-requires (divide-calls t) (divide-at t) divide.Post
+split-allocate-requires t c κs =
     let a = c .before .before .before in
     halved-free _ _ _ _ _ _ (a .pre .1 .2 .0)
 
-divide-divide-requires : (t : ℕ) → divide-lts.Need-divide-requires (divide-calls t) (divide-at t) divide.Post
-divide-divide-requires t c κs =
+split-divide-requires : (t : ℕ) → divide-lts.Need-divide-requires (divide-calls t) (divide-at t) divide.Post
+split-divide-requires t c κs =
     let a = c .before .before .before .before .before .before .before .before in
     let fresh = c .before .before .before .before .allocate .ensures in
     let h = halved-asks _ _ _ _ _ _ (a .pre .1 .2 .0) (fresh .0) (fresh .1) in
     let f = halved-free _ _ _ _ _ _ (a .pre .1 .2 .0) in
     (h .0, omega (arith, alloc-page _ _ (fresh .0)), h .1, h .2)
 
-divide-adopt-requires : (t : ℕ) → divide-lts.Need-adopt-requires (divide-calls t) (divide-at t) divide.Post
-divide-adopt-requires t c κs =
+split-adopt-requires : (t : ℕ) → divide-lts.Need-adopt-requires (divide-calls t) (divide-at t) divide.Post
+split-adopt-requires t c κs =
     let a = c .before .before .before .before .before .before .before .before .before .before .before .before in
     let fresh = c .before .before .before .before .before .before .before .before .allocate .ensures in
     let f = halved-free _ _ _ _ _ _ (a .pre .1 .2 .0) in
     (omega arith, omega (arith, alloc-page _ _ (fresh .0)), halved-adopts _ _ _ _ _ _ (a .pre .1 .2 .0) (fresh .0) (fresh .1) (c .before .before .before .divide .ensures .1))
 
-divide-enter-requires : (t : ℕ) → divide-lts.Need-enter-requires (divide-calls t) (divide-at t) divide.Post
-divide-enter-requires t c κs =
+split-enter-requires : (t : ℕ) → divide-lts.Need-insert-in-parent-requires (divide-calls t) (divide-at t) divide.Post
+split-enter-requires t c κs =
     let a = c .before .before .before .before .before .before .before .before .before .before .before .before .before .before .before .before in
     let fresh = c .before .before .before .before .before .before .before .before .before .before .before .before .allocate .ensures in
     let cut = c .before .before .before .before .before .before .before .divide .ensures in
     (omega arith, (omega arith, omega arith, halved-enters _ _ _ _ _ _ (a .pre .1 .2 .0) (fresh .0) (fresh .1) (cut .1) (cut .0) (c .before .before .before .adopt .ensures) _ (a .pre .1 .2 .1)))
 
-divide-same-length : (t : ℕ) → divide-lts.Need-same-length (divide-calls t) (divide-at t) divide.Post
-divide-same-length t c = search needs
+split-same-length : (t : ℕ) → divide-lts.Need-same-length (divide-calls t) (divide-at t) divide.Post
+split-same-length t c = search needs
 
-divide-returns : (t : ℕ) → divide-lts.Need-returns (divide-calls t) (divide-at t) divide.Post
-divide-returns t c =
+split-returns : (t : ℕ) → divide-lts.Need-returns (divide-calls t) (divide-at t) divide.Post
+split-returns t c =
     let a = c .before .before .before .before .before .before .before .before .before .before .before .before .before .before .before .before .before .before .before in
     let fresh = c .before .before .before .before .before .before .before .before .before .before .before .before .before .before .before .allocate .ensures in
     let cut = c .before .before .before .before .before .before .before .before .before .before .divide .ensures in
-    c .before .before .enter .ensures ∙ halved-done _ _ _ _ _ _ (a .pre .1 .2 .0) (fresh .0) (fresh .1) (cut .1) (cut .0) (c .before .before .before .before .before .before .adopt .ensures) _
+    c .before .before .insert-in-parent .ensures ∙ halved-done _ _ _ _ _ _ (a .pre .1 .2 .0) (fresh .0) (fresh .1) (cut .1) (cut .0) (c .before .before .before .before .before .before .adopt .ensures) _
 
 abbrev enter-calls : ℕ → enter-lts.Claims
 enter-calls t = (grow-top-reads.Asked, grow-top-reads.Learnt, page-of-reads.Asked, page-of-reads.Learnt, get-cell-count-reads.Asked, get-cell-count-reads.Learnt, child-place-reads.Asked, child-place-reads.Learnt, join-reads.Asked, join-reads.Learnt, adopt-one-reads.Asked, adopt-one-reads.Learnt, divide-below t, divide.Post)
@@ -182,10 +182,10 @@ enter-adopt-one-requires t c κs =
     let more = pages-more (a .args .t3) (a .args .level) (omega arith) (omega arith) (a .good .1 .1 .0 .1 .1 .0 .1 .0 .1) in
     safe-here _ _ _ _ _ _ _ _ more (a .pre .1 .2) .1
 
-enter-add-divide : (t : ℕ) → enter-lts.Need-add-divide (enter-calls t) (enter-at t) enter.Post
+enter-add-divide : (t : ℕ) → enter-lts.Need-add-split-internal (enter-calls t) (enter-at t) enter.Post
 enter-add-divide t c = search needs
 
-enter-divide-requires : (t : ℕ) → enter-lts.Need-divide-requires (enter-calls t) (enter-at t) enter.Post
+enter-divide-requires : (t : ℕ) → enter-lts.Need-split-internal-requires (enter-calls t) (enter-at t) enter.Post
 enter-divide-requires t c κs =
     let a = c .before .before .before .before .before .before .before .before .before .before .before .before .before .before in
     let more = pages-more (a .args .t3) (a .args .level) (omega arith) (omega arith) (a .good .1 .1 .0 .1 .1 .0 .1 .0 .1) in
@@ -204,21 +204,10 @@ enter-returns-3 t c =
     let of = c .before .before .before .before .before .before .before .before .before .before .before .page-of .ensures .0 in
     let count = c .before .before .before .before .before .before .before .before .before .before .get-cell-count .ensures in
     let place = c .before .before .before .before .before .before .before .before .before .child-place .ensures .0 in
-    c .before .before .divide .ensures ∙ enter-over _ _ _ _ _ _ _ _ more of count place (omega arith) (c .before .before .before .before .before .before .adopt-one .ensures)
+    c .before .before .split-internal .ensures ∙ enter-over _ _ _ _ _ _ _ _ more of count place (omega arith) (c .before .before .before .before .before .before .adopt-one .ensures)
 
-pub +divide+enter-spec : {M : Type 1} → statement M
-+divide+enter-spec = close μ-divide μ-enter (λ t. divide-lts.spec (divide-calls t)
-    (divide-at t)
-    divide.Post
-    (divide-mul-p t)
-    (divide-element-copy-out-p t)
-    (divide-allocate-requires t)
-    (divide-divide-requires t)
-    (divide-adopt-requires t)
-    (divide-enter-requires t)
-    (divide-same-length t)
-    (divide-returns t))
-    λ t. enter-lts.spec (enter-calls t)
+pub +insert-in-parent+split-internal-spec : {M : Type 1} → statement M
++insert-in-parent+split-internal-spec = close μ-enter μ-divide (λ t. enter-lts.spec (enter-calls t)
     (enter-at t)
     enter.Post
     (enter-mul-old t)
@@ -242,4 +231,15 @@ pub +divide+enter-spec : {M : Type 1} → statement M
     (enter-add-divide t)
     (enter-divide-requires t)
     (enter-same-length-3 t)
-    (enter-returns-3 t)
+    (enter-returns-3 t))
+    λ t. divide-lts.spec (divide-calls t)
+    (divide-at t)
+    divide.Post
+    (split-mul-p t)
+    (split-element-copy-out-p t)
+    (split-allocate-requires t)
+    (split-divide-requires t)
+    (split-adopt-requires t)
+    (split-enter-requires t)
+    (split-same-length t)
+    (split-returns t)
