@@ -1,27 +1,25 @@
--- The run of a key in a judged leaf stands within its cells and is no longer than they are many; a sweep drops no more than it
--- looks at; and what a leaf says of the walks that judge. Assumes nothing.
+-- The run of a key in a judged leaf stands within its cells and is no longer than they are many; a leaf has few cells to drop;
+-- and what a leaf says of the walks that judge. Assumes nothing.
 use mathlib.Core.Path.{_≡_, refl, sym, ap, _∙_}
 use mathlib.Core.Bool.{Bool, true, false}
 use mathlib.Core.List.{List, [], _∷_}
-use Prim.Native.Nat.{ℕ, zero, suc, _+_, _-_, _*_, _≤_}
+use Prim.Native.Nat.{ℕ, _+_, _*_, _≤_}
 use native.Mathlib.Omega.{arith}
 use borrow.Author.Tests.{ltb-true, ltb-false, eqb-true, eqb-false}
 use lib.Dec.{ltb, eqb}
-use lib.ListN.{length}
+use lib.ListN.{length, length-map}
 use Rattle.page.specs.Header.{cellCount}
 use Rattle.row.specs.Read.{cellAt}
 use Rattle.row.specs.declared.Cell.{Cell}
 use Rattle.row.specs.declared.Fault.{Fault}
 use Rattle.row.specs.declared.read.CellRead.{CellRead}
-use Rattle.mvcc.specs.Vacuum.{fate}
-use Rattle.mvcc.specs.declared.vacuum.Fate.{Fate}
-use Rattle.leaf.specs.Cells.{onCell, cells, foldCells, judgeLeaf, onJudged, hasLarger}
+use Rattle.leaf.specs.Cells.{cells, foldCells, judgeLeaf, onJudged, hasLarger}
 use Rattle.leaf.specs.Find.{running, runLeaf}
+use Rattle.leaf.specs.Rows.{rowOf, rows}
 use Rattle.leaf.specs.declared.Judged.{Judged}
 use Rattle.leaf.specs.declared.find.Run.{Run}
 use Rattle.leaf.specs.declared.find.LeafRun.{LeafRun}
-use Rattle.leaf_edit.specs.Edit.{without}
-use Rattle.leaf_vacuum.specs.Vacuum.{onFate, withoutStamp, sweep}
+use Rattle.leaf_vacuum.specs.Vacuum.{vacuumedLeaf}
 use Rattle.leaf_vacuum.specs.declared.Vacuumed.{Vacuumed}
 use Rattle.tree.specs.Chain.{Seen, stop, go, broken}
 use Rattle.call_clean.specs.Remove.{seenRun}
@@ -29,6 +27,7 @@ use Rattle.row.proofs.Exact.{cell-placed}
 use Rattle.leaf.proofs.Finding.{running-below, running-same, running-above}
 use Rattle.leaf.proofs.Rowing.{endOf}
 use Rattle.leaf.proofs.Chain.{Chain, chain-cells, chain-inside, judged-leaf}
+use Rattle.leaf_vacuum.proofs.VacuumFacts.{kept-count}
 
 -- ---- the run of a key
 
@@ -75,6 +74,11 @@ chain-few s at (c ∷ cs) h =
     let p = cell-placed s at c (h .0) in
     omega (arith, p .past-head, p .whole, chain-few s (c .next) cs (h .1))
 
+cells-few : (pg : List ℕ) → length pg ≡ 4096 → length (cells pg) ≤ 65535
+cells-few pg len =
+    let chain = chain-cells pg (cellCount pg) 12 in
+    omega (arith, chain-few pg 12 (cells pg) chain, chain-inside pg 12 (cells pg) (omega arith) chain)
+
 pub run-is : (p key : ℕ) (pg : List ℕ) → length pg ≡ 4096 → {r : LeafRun} {run : Run} {e : ℕ} {larger : Bool} → r ≡ runLeaf pg p key → r ≡ LeafRun.Ok run e larger → RunIs pg run e
 unfolding runLeaf
 run-is p key pg len {r} {run} {e} {larger} q u = by-judged (judgeLeaf p pg) refl (sym q ∙ u)
@@ -91,11 +95,10 @@ run-is p key pg len {r} {run} {e} {larger} q u = by-judged (judgeLeaf p pg) refl
         let i = run-cells pg key 12 0 (record { from = 12; to = 12; count = 0 }) (cells pg) (record { low = omega arith; grows = omega arith; ends = omega arith; count = omega arith }) chain in
         let k = rw same at i in
         let short = chain-inside pg 12 (cells pg) (omega arith) chain in
-        let few = chain-few pg 12 (cells pg) chain in
         record {
           within = record { low = k .low; grows = k .grows; ends = omega (arith, k .ends, there .end); count = omega (arith, k .count, there .count) };
           short = omega (arith, there .end);
-          few = omega (arith, k .count, there .end);
+          few = omega (arith, k .count, cells-few pg len);
         }
 
 -- what the run says of the walk that counts
@@ -117,39 +120,8 @@ module _ {r x : Judged} (n : ℕ) (said : r ≡ x) where
   pub leaf-go : {e : ℕ} → r ≡ Judged.Ok e → onJudged {A = Seen ℕ} (λ d. go n) broken x ≡ go n
   leaf-go e = ap (onJudged {A = Seen ℕ} (λ d. go n) broken) (sym said ∙ e)
 
--- ---- a sweep
+-- ---- vacuum
 
-dropped-few : (st : ℕ → ℕ) (bound n at e k d : ℕ) (b : Bool) (pg : List ℕ) → sweep st bound n at e k d b pg .told .dropped ≤ d + n
-unfolding sweep
-dropped-few st bound zero at e k d b pg = omega arith
-dropped-few st bound (suc n) at e k d b pg = by-read (cellAt pg at) (λ at₁ e₁ k₁ d₁ b₁ pg₁. dropped-few st bound n at₁ e₁ k₁ d₁ b₁ pg₁)
-  where
-    by-fate : (c : Cell) (f : Fate) → ((at₁ e₁ k₁ d₁ : ℕ) (b₁ : Bool) (pg₁ : List ℕ) → sweep st bound n at₁ e₁ k₁ d₁ b₁ pg₁ .told .dropped ≤ d₁ + n)
-        → onFate
-        (sweep st bound n at (e - (c .next - c .at)) (k - 1) (d + 1) true (without at (c .next) 1 e k pg))
-        (sweep st bound n (c .next - 8) (e - 8) k d true (withoutStamp e c pg))
-        (sweep st bound n (c .next) e k d b pg)
-        f
-        .told .dropped
-        ≤ d + suc n
-    by-fate c Fate.Dropped ih = omega (arith, ih at (e - (c .next - c .at)) (k - 1) (d + 1) true (without at (c .next) 1 e k pg))
-    by-fate c Fate.Cleared ih = omega (arith, ih (c .next - 8) (e - 8) k d true (withoutStamp e c pg))
-    by-fate c Fate.Same ih = omega (arith, ih (c .next) e k d b pg)
-
-    by-read : (r : CellRead) → ((at₁ e₁ k₁ d₁ : ℕ) (b₁ : Bool) (pg₁ : List ℕ) → sweep st bound n at₁ e₁ k₁ d₁ b₁ pg₁ .told .dropped ≤ d₁ + n)
-        → onCell
-        (λ c.
-        onFate
-        (sweep st bound n at (e - (c .next - c .at)) (k - 1) (d + 1) true (without at (c .next) 1 e k pg))
-        (sweep st bound n (c .next - 8) (e - 8) k d true (withoutStamp e c pg))
-        (sweep st bound n (c .next) e k d b pg)
-        (fate st bound (c .version .creator) (c .version .stamp)))
-        (λ kind. record { page = pg; told = record { dropped = d; changed = b } })
-        r
-        .told .dropped
-        ≤ d + suc n
-    by-read (CellRead.Got c) ih = by-fate c (fate st bound (c .version .creator) (c .version .stamp)) ih
-    by-read (CellRead.Bad kind) ih = omega arith
-
-pub sweep-few : (st : ℕ → ℕ) (bound n at e k d : ℕ) (b : Bool) (pg : List ℕ) {w : Vacuumed} → w ≡ sweep st bound n at e k d b pg .told → w .dropped ≤ d + n
-sweep-few st bound n at e k d b pg told = rw told (dropped-few st bound n at e k d b pg)
+pub dropped-few : (st : ℕ → ℕ) (bound : ℕ) (pg : List ℕ) {w : Vacuumed} → length pg ≡ 4096 → w ≡ vacuumedLeaf st bound pg .told → w .dropped ≤ 65535
+unfolding vacuumedLeaf
+dropped-few st bound pg len told = rw told (omega (arith, kept-count st bound (rows pg), length-map (cells pg) (rowOf pg), cells-few pg len))

@@ -16,10 +16,11 @@ use Rattle.leaf.specs.declared.Judged.{Judged}
 use Rattle.leaf.specs.declared.find.Run.{Run}
 use Rattle.leaf.specs.declared.find.LeafRun.{LeafRun}
 use Rattle.leaf_edit.specs.Edit.{without}
+use Rattle.leaf_vacuum.specs.Vacuum.{vacuumedLeaf}
 use Rattle.leaf_vacuum.specs.declared.Vacuumed.{Vacuumed}
 use Rattle.call_answers.specs.Answer.{ended}
 use Rattle.call_clean.specs.Remove.{withoutRun, removedAlong}
-use Rattle.call_clean.specs.Vacuum.{sweptLeaf, vacuumedAlong}
+use Rattle.call_clean.specs.Vacuum.{vacuumedAlong}
 use Rattle.page.proofs.PageLaws.{back-page}
 
 -- what the pool is when the lent page p has come back as x
@@ -92,8 +93,8 @@ module _ (st : ℕ → ℕ) (bound used d p : ℕ) (s : List ℕ) where
     vacuum-bad zero e = refl
     vacuum-bad (suc m) e = rw (lt-ltb p used h, sym said ∙ e)
 
-    module _ {e : ℕ} (good : r ≡ Judged.Ok e) {w : Vacuumed} (told : w ≡ sweptLeaf st bound e (page p s) .told) {t : List ℕ}
-        (made : t ≡ setPage p (sweptLeaf st bound e (page p s) .page) s) {n : ℕ} (next : n ≡ nextLeaf (page p s)) where
+    module _ {e : ℕ} (good : r ≡ Judged.Ok e) {w : Vacuumed} (told : w ≡ vacuumedLeaf st bound (page p s) .told) {t : List ℕ}
+        (made : t ≡ setPage p (vacuumedLeaf st bound (page p s) .page) s) {n : ℕ} (next : n ≡ nextLeaf (page p s)) where
       pub vacuum-end : (m : ℕ) → 0 < m → n ≡ 0 → ended (d + w .dropped) t ≡ vacuumedAlong s used p st bound m d
       unfolding vacuumedAlong
       vacuum-end zero z q = absurd (omega arith)

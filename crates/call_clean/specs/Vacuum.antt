@@ -7,13 +7,13 @@ use Prim.Native.Nat.{ℕ, zero, suc, _+_}
 use lib.Dec.{ltb, eqb}
 use Rattle.store.specs.Pick.{pick}
 use Rattle.page.specs.Page.{page, setPage}
-use Rattle.page.specs.Header.{cellCount, nextLeaf, headerSize}
+use Rattle.page.specs.Header.{nextLeaf}
 use Rattle.page.specs.Pool.{goodPool}
 use Rattle.page.specs.declared.pool.State.{State}
 use Rattle.row.specs.declared.Fault.{Fault}
 use Rattle.mvcc.specs.Snapshot.{lookup, goodStatuses, Statuses}
 use Rattle.leaf.specs.Cells.{judgeLeaf, onJudged}
-use Rattle.leaf_vacuum.specs.Vacuum.{Swept, sweep}
+use Rattle.leaf_vacuum.specs.Vacuum.{Swept, vacuumedLeaf}
 use Rattle.tree.specs.Chain.{Seen, go, broken, Told, ok, ill, along}
 use Rattle.tree.specs.Descend.{descendOf, onLeaf}
 use Rattle.tree.specs.declared.Route.{Route}
@@ -37,16 +37,12 @@ judgedAlong s used p = toldJudged (along lookLeaf used used 0 p s)
 
 -- ---- the stores
 
--- a leaf whose cells end at e
-abbrev pub sweptLeaf : (ℕ → ℕ) → (bound e : ℕ) → List ℕ → Swept
-sweptLeaf st bound e pg = sweep st bound (cellCount pg) headerSize e (cellCount pg) 0 false pg
-
 -- from page p, m leaves at most; n versions were dropped so far
 unfoldable pub vacuumedAlong : List ℕ → (used p : ℕ) → (ℕ → ℕ) → (bound m n : ℕ) → Ended ℕ
 vacuumedAlong s used p st bound zero n = ended n s
 vacuumedAlong s used p st bound (suc m) n =
     pick (ltb p used)
-    (onJudged (λ e. after (sweptLeaf st bound e (page p s)) (λ d t. vacuumedAlong t used (nextLeaf (page p s)) st bound m d)) (λ f. ended n s) (judgeLeaf p (page p s)))
+    (onJudged (λ e. after (vacuumedLeaf st bound (page p s)) (λ d t. vacuumedAlong t used (nextLeaf (page p s)) st bound m d)) (λ f. ended n s) (judgeLeaf p (page p s)))
     (ended n s)
   where
     after : Swept → (ℕ → List ℕ → Ended ℕ) → Ended ℕ

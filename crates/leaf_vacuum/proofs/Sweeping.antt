@@ -28,7 +28,8 @@ use Rattle.leaf.specs.Rows.{Row, AllFit, rowOf, rows, rowSize, rowBytes, rowsBy
 use Rattle.leaf.specs.RowFacts.{Sound}
 use Rattle.leaf_edit.specs.Steps.Edit.{gapped}
 use Rattle.leaf_edit.specs.Edit.{without}
-use Rattle.leaf_vacuum.specs.Vacuum.{clearedRow, withoutStamp, sweep}
+use Rattle.leaf_vacuum.specs.Vacuum.{clearedRow}
+use Rattle.leaf_vacuum.specs.Steps.Vacuum.{withoutStamp, sweep}
 use Rattle.store.proofs.LeLaws.{length-bytesLE, length-putAt, one-byte}
 use Rattle.store.proofs.PartLaws.{length-part, part-add, part-first, part-peel}
 use Rattle.store.proofs.SeamLaws.{part-left, spliced-before, length-pad}

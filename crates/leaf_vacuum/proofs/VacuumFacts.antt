@@ -1,4 +1,4 @@
--- The facts of specs/VacuumFacts: what a sweep leaves of a page that holds rows, and so of a leaf that was judged.
+-- The facts of specs/Steps/VacuumFacts: what a sweep leaves of a page that holds rows, and so of a leaf that was judged.
 -- Assumes nothing.
 use mathlib.Core.Path.{_≡_, refl, sym, ap, _∙_}
 use mathlib.Core.Bool.{Bool, true, false, _||_}
@@ -18,8 +18,9 @@ use Rattle.row.specs.declared.Stamp.{Stamp}
 use Rattle.mvcc.specs.Vacuum.{fate}
 use Rattle.mvcc.specs.declared.vacuum.Fate.{Fate}
 use Rattle.leaf.specs.Rows.{Row, rowSize, rowBytes, rowsBytes, rows, writeRows}
-use Rattle.leaf_vacuum.specs.Vacuum.{clearedRow, onFate, keptRows, droppedRows, changesRows, Swept, sweep}
-use Rattle.leaf_vacuum.specs.VacuumFacts.{VacuumSweeps}
+use Rattle.leaf_vacuum.specs.Vacuum.{clearedRow, onFate, keptRows, droppedRows, changesRows, Swept, vacuumedLeaf}
+use Rattle.leaf_vacuum.specs.Steps.Vacuum.{sweep}
+use Rattle.leaf_vacuum.specs.Steps.VacuumFacts.{VacuumSweeps}
 use Rattle.store.proofs.LeLaws.{length-putAt}
 use Rattle.store.proofs.PartLaws.{putAt-part}
 use Rattle.row.proofs.Writing.{length-cell}
@@ -121,7 +122,7 @@ module _ (st : ℕ → ℕ) (bound : ℕ) where
   swept (r ∷ rs) = swept-row r rs (swept rs)
 
   -- what is kept and what goes is all
-  kept-count : (rs : List Row) → length (keptRows st bound rs) + droppedRows st bound rs ≡ length rs
+  pub kept-count : (rs : List Row) → length (keptRows st bound rs) + droppedRows st bound rs ≡ length rs
   unfolding keptRows droppedRows
   kept-count [] = refl
   kept-count (r ∷ rs) = by-fate (fate st bound (r .creator) (r .stamp)) (kept-count rs)
@@ -147,7 +148,7 @@ header-count : (pg : List ℕ) → AreBytes pg → withCount (cellCount pg) (par
 header-count pg B = putAt-part 2 0 12 pg 6 (cellCount pg) (omega arith) ∙ ap (part 0 12) (putAt-leAt 2 pg 6 B)
 
 pub vacuum-sweeps : VacuumSweeps
-unfolding writeRows
+unfolding writeRows vacuumedLeaf
 vacuum-sweeps st bound e pg B len j =
     let n = cellCount pg in
     let rs = rows pg in

@@ -1,3 +1,3 @@
 -- What a reader of the contracts of `leaf_vacuum` has to believe.
 pub mod Vacuum
-pub mod VacuumFacts
+pub mod Steps

@@ -11,7 +11,8 @@ ghost use Rattle.mvcc.specs.Steps.Snapshot.{StatusesJudged};
 ghost use Rattle.page.specs.Header.{cellCount};
 ghost use Rattle.leaf.specs.Cells.{judgeLeaf};
 ghost use Rattle.leaf.specs.declared.Judged.{Judged};
-ghost use Rattle.leaf_vacuum.specs.Vacuum.{withoutStamp, sweep};
+ghost use Rattle.leaf_vacuum.specs.Vacuum.{vacuumedLeaf};
+ghost use Rattle.leaf_vacuum.specs.Steps.Vacuum.{withoutStamp};
 use mvcc::vacuum::Fate;
 use row::Cell;
 
@@ -43,8 +44,8 @@ pub fn vacuum_leaf(
     n: usize,
 ) -> Vacuumed
     requires { ⌜ (length (now pg) ≡ 4096) × StatusesJudged (statuses (now ids) (now states)) × (n ≡ cellCount (now pg)) × (n < 65536) × (judgeLeaf 0 (now pg) ≡ Judged.Ok e) ⌝ }
-    ensures { λ r. ⌜ (r ≡ sweep (lookup (statuses (now (ids .entry)) (now (states .entry)))) bound n 12 e n 0 false (now (pg .entry)) .told)
-        × (now (pg .exit) ≡ sweep (lookup (statuses (now (ids .entry)) (now (states .entry)))) bound n 12 e n 0 false (now (pg .entry)) .page) ⌝ }
+    ensures { λ r. ⌜ (r ≡ vacuumedLeaf (lookup (statuses (now (ids .entry)) (now (states .entry)))) bound (now (pg .entry)) .told)
+        × (now (pg .exit) ≡ vacuumedLeaf (lookup (statuses (now (ids .entry)) (now (states .entry)))) bound (now (pg .entry)) .page) ⌝ }
 {
     let mut left = n;
     let mut at = page::HEADER_SIZE;

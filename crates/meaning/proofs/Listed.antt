@@ -9,14 +9,15 @@ use Rattle.page.specs.Page.{page, setPage}
 use Rattle.page.specs.Pool.{goodPool}
 use Rattle.page.specs.declared.pool.State.{State}
 use Rattle.mvcc.specs.Snapshot.{lookup, goodStatuses, Statuses}
-use Rattle.leaf_vacuum.specs.Vacuum.{Swept, sweep}
+use Rattle.leaf.specs.Cells.{cellsOf}
+use Rattle.leaf_vacuum.specs.Vacuum.{Swept, droppedRows, changesRows, vacuumedLeaf}
 use Rattle.tree.specs.Chain.{go, ok, along}
 use Rattle.tree.specs.Create.{rooted, createdPool}
 use Rattle.tree.specs.declared.Route.{Route}
 use Rattle.call_answers.specs.Answer.{done, ended}
 use Rattle.call_read.specs.Create.{createCall, hasPage}
 use Rattle.call_insert.specs.Insert.{versionReady, insertVersionRun, insertVersionCall, insertReady, insertRun, insertCall}
-use Rattle.call_clean.specs.Vacuum.{lookLeaf, judgedAlong, sweptLeaf, vacuumedAlong, vacuumRun, vacuumCall}
+use Rattle.call_clean.specs.Vacuum.{lookLeaf, judgedAlong, vacuumedAlong, vacuumRun, vacuumCall}
 use Rattle.call_clean.specs.declared.vacuum.ChainJudged.{ChainJudged}
 use Rattle.meaning.specs.Cases.{DataLimit, Cases}
 use Rattle.page.proofs.PageLaws.{setPage-page}
@@ -31,13 +32,10 @@ use Rattle.call_clean.proofs.Storing.{vacuum-end}
 
 -- ---- P1: vacuum of an empty tree
 
--- no cell to look at: the page stays
-abbrev unswept : List ℕ → Swept
-unswept pg = record { page = pg; told = record { dropped = 0; changed = false } }
-
-empty-swept : (f : ℕ → ℕ) (bound : ℕ) {pg : List ℕ} → Empty pg → sweptLeaf f bound 12 pg ≡ unswept pg
-unfolding sweep
-empty-swept f bound e = rw (e .count)
+-- no row to drop: the page stays
+empty-vacuumed : (f : ℕ → ℕ) (bound : ℕ) {pg : List ℕ} → Empty pg → vacuumedLeaf f bound pg ≡ record { page = pg; told = record { dropped = 0; changed = false } }
+unfolding vacuumedLeaf droppedRows changesRows cellsOf
+empty-vacuumed f bound e = rw (e .count)
 
 module _ (used root : ℕ) (s : List ℕ) (t : Alone used root s) where
   chain-judged : judgedAlong s used root ≡ ChainJudged.Ok
@@ -50,8 +48,8 @@ module _ (used root : ℕ) (s : List ℕ) (t : Alone used root s) where
 
   chain-stays : (f : ℕ → ℕ) (bound : ℕ) → vacuumedAlong s used root f bound used 0 ≡ ended 0 s
   chain-stays f bound =
-      let w = empty-swept f bound (t .empty) in
-      let same : s ≡ setPage root (sweptLeaf f bound 12 (page root s) .page) s = rw w (sym (setPage-page root s)) in
+      let w = empty-vacuumed f bound (t .empty) in
+      let same : s ≡ setPage root (vacuumedLeaf f bound (page root s) .page) s = rw w (sym (setPage-page root s)) in
       sym
       (vacuum-end f bound used 0 root s (t .in-use) (sym (empty-judged (t .empty) root)) refl (sym (ap (λ (x : Swept). x .told) w)) same refl
       used (omega (arith, t .in-use)) (t .empty .next))

@@ -30,20 +30,19 @@ use Rattle.theory_tree.specs.Shape.{Shape, chain, All, WellFormed}
 use Rattle.theory_tree.specs.Versions.{only, ofKey}
 use Rattle.page.proofs.PoolLaws.{pool-is}
 use Rattle.leaf.proofs.Rowing.{endOf}
-use Rattle.leaf.proofs.RowFacts.{rows-fill}
 use Rattle.call_clean.proofs.Storing.{remove-last, remove-end, remove-on}
 use Rattle.call_clean.proofs.Calls.{remove-done, remove-call}
 use Rattle.theory_tree.proofs.Workers.{larger}
 use Rattle.theory_tree.proofs.Contexts.{top, Loc}
 use Rattle.theory_tree.proofs.Lists.{all-map}
-use Rattle.theory_tree.proofs.Map.{mapS, filt-keeps, filt-chain}
+use Rattle.theory_tree.proofs.Map.{mapS, filt-all, filt-keeps, filt-chain}
 use Rattle.theory_tree.proofs.Order.{filt-app, filt-none}
 use Rattle.theory_tree.proofs.Seek.{leafOf}
 use Rattle.theory_tree.proofs.Walk.{locs, froms, locs-plug}
 use Rattle.theory_walks.proofs.Descending.{descend-search}
 use Rattle.theory_walks.proofs.Looking.{larger-is}
 use Rattle.theory_walks.proofs.Walking.{at-leaves, upTo, around, gather-chain, walk-key}
-use Rattle.theory_clean.proofs.Changing.{LeafIs, PoolHas, Changed, unchanged, rewritten, changedAt, changed, Mapped, mapped, change-search, bytes-without}
+use Rattle.theory_clean.proofs.Changing.{LeafIs, PoolHas, HasBytes, Changed, unchanged, rewritten, changedAt, changed, Mapped, mapped, change-search}
 use Rattle.theory_clean.proofs.Running.{only-others, only-fits, only-short, Splits, run-splits, rows-same, count-in, run-out}
 
 module _ (key : ℕ) where
@@ -94,35 +93,36 @@ module _ (key : ℕ) where
   -- ---- the stores
 
   -- a leaf without its cells of the key
-  abbrev cleared : ℕ → List ℕ → List ℕ
+  abbrev pub cleared : ℕ → List ℕ → List ℕ
   cleared p pg = onRun (λ run e l. withoutRun run e pg) pg (runLeaf pg p key)
 
-  clears : (p e : ℕ) (pg : List ℕ) → LeafIs p e pg → Changed othersOf pg (cleared p pg)
+  pub clears : (p e : ℕ) (pg : List ℕ) → LeafIs p e pg → Changed othersOf pg (cleared p pg)
   clears p e pg is = rw (run-told p e pg (is .judged), r .told) (by-count (eqb (length (r .out)) 0) refl)
     where
       r : Splits key 12 (cells pg)
       r = run-splits key p e pg (is .judged)
 
+      others : Row → Bool
+      others x = not (ofKey key x)
+
       by-count : (b : Bool) → eqb (length (r .out)) 0 ≡ b
           → Changed othersOf pg (pick b pg (without (endOf 12 (r .before)) (endOf (endOf 12 (r .before)) (r .out)) (length (r .out)) e (cellCount pg) pg))
       by-count true q = unchanged othersOf p e pg is (rows-same key pg r (eqb-true (length (r .out)) 0 q))
       by-count false q =
-          rewritten othersOf p e pg is _
-          (bytes-without (endOf 12 (r .before)) (endOf (endOf 12 (r .before)) (r .out)) (length (r .out)) e (cellCount pg) pg (is .sound .bytes))
-          (only-fits (λ (x : Row). not (ofKey key x)) (rows pg) (rows-fill pg e (is .sound) .2))
-          (only-short (λ (x : Row). not (ofKey key x)) (rows pg)) (run-out key pg r e (is .sound))
+          rw (run-out key pg r e (is .sound))
+          (rewritten othersOf p e pg is (filt-all HasBytes others (rows pg)) (only-fits others (rows pg)) (only-short others (rows pg)))
 
   module _ (used m p e : ℕ) (s : List ℕ) (low : p < used) (is : LeafIs p e (page p s)) where
     cleared-at : changedAt othersOf cleared clears p s ≡ setPage p (withoutRun (runOf (page p s)) e (page p s)) s
     cleared-at = rw (run-told p e (page p s) (is .judged))
 
-    clear-last : larger key (rows (page p s)) ≡ true → removedAlong s used p key (suc m) ≡ changedAt othersOf cleared clears p s
+    pub clear-last : larger key (rows (page p s)) ≡ true → removedAlong s used p key (suc m) ≡ changedAt othersOf cleared clears p s
     clear-last l = sym (remove-last used key p s low refl (run-told p e (page p s) (is .judged)) cleared-at (suc m) (omega arith) l)
 
-    clear-end : larger key (rows (page p s)) ≡ false → nextLeaf (page p s) ≡ 0 → removedAlong s used p key (suc m) ≡ changedAt othersOf cleared clears p s
+    pub clear-end : larger key (rows (page p s)) ≡ false → nextLeaf (page p s) ≡ 0 → removedAlong s used p key (suc m) ≡ changedAt othersOf cleared clears p s
     clear-end l z = sym (remove-end used key p s low refl (run-told p e (page p s) (is .judged)) cleared-at refl (suc m) (omega arith) l z)
 
-    clear-on : (n : ℕ) → larger key (rows (page p s)) ≡ false → nextLeaf (page p s) ≡ n → (n ≡ 0 → ⊥)
+    pub clear-on : (n : ℕ) → larger key (rows (page p s)) ≡ false → nextLeaf (page p s) ≡ n → (n ≡ 0 → ⊥)
         → removedAlong s used p key (suc m) ≡ removedAlong (changedAt othersOf cleared clears p s) used n key m
     clear-on n l q z =
         let k : suc m - 1 ≡ m = omega arith in

@@ -1,15 +1,16 @@
--- `leaf_vacuum::vacuum_leaf` meets its contract: the sweep that is left, of the page as it is now, is the whole sweep; and
--- the rows that are left stand on the page. Assumes nothing.
-use mathlib.Core.Path.{_≡_, refl, sym, ap, _∙_, subst}
-use mathlib.Core.Bool.{false}
+-- `leaf_vacuum::vacuum_leaf` meets its contract: the sweep that is left, of the page as it is now, comes to the vacuumed leaf;
+-- and the rows that are left stand on the page. Assumes nothing.
+use mathlib.Core.Path.{_≡_, sym, ap, _∙_, subst}
 use Prim.Native.Nat.{_+_, _≤_, _<_}
 use native.Mathlib.Omega.{arith}
 use denote.Ref.{now}
 use lib.ListN.{length}
 use Rattle.mvcc.specs.Snapshot.{lookup, statuses}
 use Rattle.leaf.specs.RowFacts.{Sound}
-use Rattle.leaf_vacuum.specs.Vacuum.{Swept, sweep}
+use Rattle.leaf_vacuum.specs.Vacuum.{Swept, vacuumedLeaf}
+use Rattle.leaf_vacuum.specs.Steps.Vacuum.{sweep}
 use Rattle.leaf_vacuum.proofs.Sweeping.{sound-stands, Left, left-next, cleared-stamped, sweep-done, sweep-bad, sweep-same, sweep-dropped, sweep-cleared}
+use Rattle.leaf_vacuum.proofs.VacuumFacts.{vacuum-sweeps}
 use borrow.Author.Needs.{needs}
 use Rattle.leaf_vacuum.proofs.vacuum_leaf.Statement.{statement}
 use Rattle.leaf_vacuum.proofs.vacuum_leaf.Tie as tie
@@ -17,7 +18,7 @@ use Rattle.leaf_vacuum.proofs.vacuum_leaf.Tie as tie
 abbrev Inv-loop : tie.InvT-loop
 Inv-loop pg₀ ids states bound e n left₀ at₀ end₀ count₀ dropped₀ changed₀ pg left at end count dropped changed =
     Left left at end pg
-    × (sweep (lookup (statuses ids states)) bound left at end count dropped changed pg ≡ sweep (lookup (statuses ids states)) bound n 12 e n 0 false pg₀)
+    × (sweep (lookup (statuses ids states)) bound left at end count dropped changed pg ≡ vacuumedLeaf (lookup (statuses ids states)) bound pg₀)
     × (length pg ≡ 4096)
     × (left ≤ count)
     × (count < 65536)
@@ -30,8 +31,8 @@ loop-holds : tie.Need-loop-holds Inv-loop μ-loop
 loop-holds c =
     let k = c .before .before in
     let sound : Sound (now (k .before .args .pg)) (k .before .args .e) = record { bytes = λ i. (k .slice-known .given i) .fits; whole = omega arith; judged = k .before .pre .4 } in
-    let first : Left (k .before .args .n) 12 (k .before .args .e) (now (k .before .args .pg)) = rw (k .before .pre .2) (record { head = _; rs = _; stands = sound-stands _ _ sound }) in
-    (first, refl, omega arith, omega arith, omega arith, omega arith)
+    rw (k .before .pre .2)
+    (record { head = _; rs = _; stands = sound-stands _ _ sound }, vacuum-sweeps _ _ _ _ (sound .bytes) (sound .whole) (sound .judged), omega arith, omega arith, omega arith, omega arith)
 
 read-cell-requires : tie.Need-read-cell-requires Inv-loop μ-loop
 read-cell-requires c κs = search needs

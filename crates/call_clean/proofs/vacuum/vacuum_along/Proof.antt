@@ -8,7 +8,7 @@ use Rattle.page.proofs.PageLaws.{lent-page}
 use Rattle.mvcc.specs.Snapshot.{lookup, statuses}
 use Rattle.call_clean.specs.Vacuum.{vacuumedAlong}
 use Rattle.leaf.proofs.Choosing.{any-page}
-use Rattle.call_clean.proofs.Counting.{sweep-few}
+use Rattle.call_clean.proofs.Counting.{dropped-few}
 use Rattle.call_clean.proofs.Storing.{page-made, vacuum-none, vacuum-unused, vacuum-bad, vacuum-end, vacuum-on}
 use borrow.Author.Needs.{needs}
 use Rattle.call_clean.proofs.vacuum.vacuum_along.Statement.{statement}
@@ -113,7 +113,7 @@ vacuum-leaf-requires c κs =
     (search needs, start .pre .2, count .get-cell-count .ensures, search needs, any-page _ 0 _ _ (sym (judged .judge-leaf .ensures) ∙ got .e .given .1))
 
 add-dropped : tie.Need-add-dropped Inv-loop μ-loop
-add-dropped c = let few = sweep-few _ _ _ _ _ _ _ _ _ (c .before .before .before .vacuum-leaf .ensures .0) in omega (arith, few)
+add-dropped c = let few = dropped-few _ _ _ (search needs) (c .before .before .before .vacuum-leaf .ensures .0) in omega arith
 
 same-length-3 : tie.Need-same-length-3 Inv-loop μ-loop
 same-length-3 c = search needs
@@ -126,9 +126,8 @@ returns-3 c =
     let count = judged .before .before .before in
     let next = count .before .before .before in
     let walk = next .before .before .before .before .before in
-    let n = rw lent-page at (count .get-cell-count .ensures) in
     let w = rw lent-page at (swept .vacuum-leaf .ensures) in
-    vacuum-end _ _ _ _ _ _ (search needs) (rw lent-page at (judged .judge-leaf .ensures)) (got .e .given .1) (rw n at (w .0)) (page-made _ _ (rw n at (w .1))) (rw lent-page at (next .get-next-leaf .ensures)) _ (search needs) (search needs) ∙ walk .loop .inv .2
+    vacuum-end _ _ _ _ _ _ (search needs) (rw lent-page at (judged .judge-leaf .ensures)) (got .e .given .1) (w .0) (page-made _ _ (w .1)) (rw lent-page at (next .get-next-leaf .ensures)) _ (search needs) (search needs) ∙ walk .loop .inv .2
 
 sub-left : tie.Need-sub-left Inv-loop μ-loop
 sub-left c = search needs
@@ -139,16 +138,15 @@ loop-less c = search needs
 loop-again : tie.Need-loop-again Inv-loop μ-loop
 loop-again c = (
   search needs,
-  let few = sweep-few _ _ _ _ _ _ _ _ _ (c .before .before .before .before .vacuum-leaf .ensures .0) in omega (arith, few),
+  let few = dropped-few _ _ _ (search needs) (c .before .before .before .before .vacuum-leaf .ensures .0) in omega arith,
   let swept = c .before .before .before .before in
       let got = swept .before .before .before in
       let judged = got .before .before in
       let count = judged .before .before .before in
       let next = count .before .before .before in
       let walk = next .before .before .before .before .before in
-      let n = rw lent-page at (count .get-cell-count .ensures) in
       let w = rw lent-page at (swept .vacuum-leaf .ensures) in
-      vacuum-on _ _ _ _ _ _ (search needs) (rw lent-page at (judged .judge-leaf .ensures)) (got .e .given .1) (rw n at (w .0)) (page-made _ _ (rw n at (w .1))) (rw lent-page at (next .get-next-leaf .ensures)) _ (search needs) (search needs) ∙ walk .loop .inv .2,
+      vacuum-on _ _ _ _ _ _ (search needs) (rw lent-page at (judged .judge-leaf .ensures)) (got .e .given .1) (w .0) (page-made _ _ (w .1)) (rw lent-page at (next .get-next-leaf .ensures)) _ (search needs) (search needs) ∙ walk .loop .inv .2,
 )
 
 same-length-4 : tie.Need-same-length-4 Inv-loop μ-loop

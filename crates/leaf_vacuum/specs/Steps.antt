@@ -1,0 +1,3 @@
+-- Steps of the code and needs of its stores, which only contracts inside cite.
+pub mod Vacuum
+pub mod VacuumFacts
