@@ -40,10 +40,11 @@ use Rattle.theory_tree.proofs.Contexts.{top}
 use Rattle.theory_tree.proofs.Map.{mapS, Keeps}
 use Rattle.theory_tree.proofs.Order.{btw-weak}
 use Rattle.theory_tree.proofs.Walk.{locs, locs-plug}
-use Rattle.theory_stores.proofs.Keeping.{bytes-part, bytes-pad, bytes-spliced, bytes-cell}
+use Rattle.theory_stores.proofs.Keeping.{bytes-pad, bytes-spliced, bytes-cell}
 use Rattle.theory_walks.proofs.Descending.{descend-first}
 use Rattle.theory_walks.proofs.Walking.{at-leaves, up-to-end, gather, gather-chain, walk-all}
 use Rattle.theory_clean.proofs.Changing.{LeafIs, PoolHas, Changed, unchanged, rewritten, changedAt, changed, Mapped, mapped, change-first, bytes-without}
+use Rattle.store.proofs.PartLaws.{bytes-part}
 
 -- ---- the bytes of a cell
 
