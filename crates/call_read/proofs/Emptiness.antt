@@ -51,9 +51,10 @@ use Rattle.store.proofs.LeLaws.{length-putAt}
 use Rattle.store.proofs.PutLaws.{put-nil}
 use Rattle.page.proofs.PageLaws.{length-setPage, page-setPage}
 use Rattle.page.proofs.PoolLaws.{pool-is, pool-in-use}
-use Rattle.tree.proofs.Ways.{and-both, way-leaf, along-end}
+use Rattle.tree.proofs.Ways.{way-leaf, along-end}
 use Rattle.tree_check.proofs.Linking.{check-is-well}
 use Rattle.list_visible.proofs.Writing.{cells-none}
+use Rattle.store.proofs.Tests.{and-both}
 
 -- ---- the page
 

@@ -13,12 +13,9 @@ use Rattle.inner.specs.Inner.{keyAt, childAt, keysFrom, childrenFrom, ne
 use Rattle.row.specs.Fault.{structural}
 use Rattle.inner.specs.Route.{firstWhere}
 use Rattle.inner.specs.declared.InnerJudged.{InnerJudged}
+use Rattle.store.proofs.Tests.{and-both}
 
 -- ---- keys that never fall
-
-and-split : (a b : Bool) → (a && b) ≡ true → (a ≡ true) × (b ≡ true)
-and-split true b e = (refl, e)
-and-split false b e = absurd (let z : _≡_ {A = ℕ} 0 1 = ap (λ (t : Bool). pick t 1 0) e in omega arith)
 
 -- a turn of the loop that judges them, with its flag
 pub falls-turn : (ok : Bool) (last k i n m : ℕ) (pg : List ℕ) → n ≡ suc m → k ≡ keyAt pg i
@@ -83,9 +80,9 @@ unfolding neverFalls keysFrom
 above x zero m i j pg e h l = absurd (omega arith)
 above x (suc n) zero i j pg e h l =
     let f : j ≡ i = omega arith in
-    rw f (leb-true x (keyAt pg i) (and-split (leb x (keyAt pg i)) _ h .0))
+    rw f (leb-true x (keyAt pg i) (and-both (leb x (keyAt pg i)) _ h .0))
 above x (suc n) (suc m) i j pg e h l =
-    let s = and-split (leb x (keyAt pg i)) _ h in
+    let s = and-both (leb x (keyAt pg i)) _ h in
     let a : x ≤ keyAt pg i = leb-true x (keyAt pg i) (s .0) in
     omega (arith, above (keyAt pg i) n m (i + 1) j pg (omega arith) (s .1) (omega arith))
 
@@ -98,7 +95,7 @@ first-gt bound (suc n) zero i j x pg e h l k =
     let f : j ≡ i = omega arith in
     rw (lt-leb bound (keyAt pg i) (rw f at k)) (omega arith)
 first-gt bound (suc n) (suc m) i j x pg e h l k =
-    let s = and-split (leb x (keyAt pg i)) _ h in
+    let s = and-both (leb x (keyAt pg i)) _ h in
     let a : keyAt pg i < bound = omega (arith, above (keyAt pg i) n m (i + 1) j pg (omega arith) (s .1) (omega arith)) in
     rw (lt-leb bound (keyAt pg i) a) (omega (arith, first-gt bound n m (i + 1) j (keyAt pg i) pg (omega arith) (s .1) (omega arith) k))
 

@@ -200,3 +200,7 @@ module _ (p q i sep child : ℕ) (s : List ℕ) (less : p < q) (fits : q * 4096 
   pub divide-done : {s₁ y : List ℕ} → s₁ ≡ setPage q (rightHalf i sep child (page p s) (page q s)) s → y ≡ leftHalf i sep child (page p s₁)
       → setPage p y s₁ ≡ setPage p (leftHalf i sep child (page p s)) (setPage q (rightHalf i sep child (page p s) (page q s)) s)
   divide-done e f = rw (f, e, right-beside)
+
+pub middle-less : (i sep new : ℕ) (pg : List ℕ) → middleKey i sep new pg < 4294967296
+unfolding middleKey
+middle-less i sep new pg = flip-less _

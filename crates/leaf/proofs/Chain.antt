@@ -3,7 +3,7 @@
 use mathlib.Core.Path.{_≡_, refl, sym, ap, _∙_, subst}
 use mathlib.Core.Bool.{Bool, true, false}
 use mathlib.Core.List.{List, [], _∷_, _++_, map}
-use Prim.Native.Nat.{ℕ, zero, suc, _+_, _-_, _≤_}
+use Prim.Native.Nat.{ℕ, zero, suc, _+_, _-_, _*_, _≤_}
 use native.Mathlib.Omega.{arith}
 use lib.Dec.{eqb}
 use lib.ListN.{length}
@@ -153,3 +153,9 @@ split-at pg e xs ys sound h =
       front = ap (λ (k : ℕ). part 0 k pg) i ∙ (part-add 0 12 (endOf 12 xs - 12) pg ∙ rw (z, chain-bytes pg (sound .bytes) 12 xs l));
       back = rw ends at (chain-bytes pg (sound .bytes) (endOf 12 xs) ys r);
     }
+
+-- at least 19 bytes a cell
+pub cells-room : (pg : List ℕ) (at : ℕ) (cs : List Cell) → Chain pg at cs → at + 19 * length cs ≤ endOf at cs
+unfolding endOf
+cells-room pg at [] h = omega arith
+cells-room pg at (c ∷ cs) h = let p = cell-placed pg at c (h .0) in omega (arith, cells-room pg (c .next) cs (h .1), p .past-head, p .whole)

@@ -1,11 +1,14 @@
 -- The facts of specs/CutFacts: the cut that the walk keeps is the best one, a stamp always divides, and the three cases
 -- by computation. Assumes nothing.
 use mathlib.Core.Path.{_≡_, refl, ap, _∙_}
-use mathlib.Core.List.{List, [], _∷_}
+use mathlib.Core.Bool.{true}
+use mathlib.Core.List.{List, [], _∷_, _++_}
 use mathlib.Core.Logic.{⊎-elim}
-use Prim.Native.Nat.{ℕ, _+_, _≤_, _<_}
+use Prim.Native.Nat.{ℕ, zero, suc, _+_, _≤_, _<_}
 use native.Mathlib.Omega.{arith}
-use borrow.Author.Tests.{le-leb, le-ltb}
+use borrow.Author.Tests.{le-leb, le-ltb, leb-true}
+use lib.Dec.{leb}
+use Rattle.store.proofs.Tests.{and-both}
 use lib.ListN.{length, take}
 use Rattle.store.proofs.PartLaws.{le-or-lt}
 use Rattle.leaf.specs.Place.{largerSide, betterCut, cutStep, cutAfter, cutOf, cutFits, noCut, uncut}
@@ -74,3 +77,33 @@ stamp-divides (x ∷ (y ∷ rest)) b lo hi =
 pub cut-cases : CutCases
 unfolding cutOf cutAfter cutStep betterCut cutFits
 cut-cases = record { p4 = refl; p5 = refl; p6 = refl }
+
+pub sum-append : (xs ys : List ℕ) → sum (xs ++ ys) ≡ sum xs + sum ys
+sum-append [] ys = omega arith
+sum-append (x ∷ xs) ys = omega (arith, sum-append xs ys)
+
+pub sum-take : (i : ℕ) (xs : List ℕ) → sum (take i xs) ≤ sum xs
+sum-take zero xs = omega arith
+sum-take (suc i) [] = omega arith
+sum-take (suc i) (x ∷ xs) = omega (arith, sum-take i xs)
+
+-- the first i of xs, m and ys, where m is not among them, and where it is
+pub sum-front : (i : ℕ) (xs ys : List ℕ) → i ≤ length xs → sum (take i (xs ++ ys)) ≤ sum xs
+sum-front zero xs ys h = omega arith
+sum-front (suc i) [] ys h = absurd (omega arith)
+sum-front (suc i) (x ∷ xs) ys h = omega (arith, sum-front i xs ys (omega arith))
+
+pub sum-past : (i : ℕ) (xs : List ℕ) (m : ℕ) (ys : List ℕ) → length xs < i → sum xs + m ≤ sum (take i (xs ++ (m ∷ ys)))
+sum-past zero xs m ys h = absurd (omega arith)
+sum-past (suc i) [] m ys h = omega arith
+sum-past (suc i) (x ∷ xs) m ys h = omega (arith, sum-past i xs m ys (omega arith))
+
+pub between-append : (lo hi : ℕ) (xs ys : List ℕ) → Between lo hi xs → Between lo hi ys → Between lo hi (xs ++ ys)
+between-append lo hi [] ys a b = b
+between-append lo hi (x ∷ xs) ys a b = (a .0, a .1, between-append lo hi xs ys (a .2) b)
+
+pub fits-is : (t : ℕ) (cut : Cut) → cutFits t cut ≡ true → (1 ≤ cut .cells) × (largerSide t cut ≤ 4084)
+unfolding cutFits
+fits-is t cut e =
+    let b = and-both (leb 1 (cut .cells)) (leb (largerSide t cut) 4084) e in
+    (leb-true 1 (cut .cells) (b .0), leb-true (largerSide t cut) 4084 (b .1))

@@ -17,7 +17,7 @@ use Rattle.store.proofs.SeamLaws.{part-left, part-right, part-whole, length-pad
 use Rattle.leaf.proofs.Rowing.{length-rows, rows-read}
 use Rattle.leaf.proofs.Chain.{chain-cells, chain-fits, judged-leaf, split-at}
 
-rows-few : (rs : List Row) → length rs ≤ length (rowsBytes rs)
+pub rows-few : (rs : List Row) → length rs ≤ length (rowsBytes rs)
 unfolding rowsBytes
 rows-few [] = omega arith
 rows-few (r ∷ rs) = omega (arith, length-rows r rs, rows-few rs)

@@ -57,7 +57,7 @@ insert-spliced pg e r sound =
     rw (p .here, take-map f i cs, drop-map f i cs)
     (spliced-rows (endOf 12 (take i cs)) (endOf 12 (take i cs)) e pg (rowBytes r) (map f (take i cs)) (r ∷ []) (map f (drop i cs)) (s .front) (one-row r) (s .back))
 
-length-insert : (i : ℕ) (r : Row) (rs : List Row) → length (insertRow i r rs) ≡ length rs + 1
+pub length-insert : (i : ℕ) (r : Row) (rs : List Row) → length (insertRow i r rs) ≡ length rs + 1
 length-insert i r rs = omega (arith, length-append (take i rs) (r ∷ drop i rs), simp length-append at (ap length (take-append-drop i rs)))
 
 pub insert-inserts : InsertInserts

@@ -18,7 +18,7 @@ use Rattle.list_records.specs.Records.{records}
 use Rattle.store.proofs.LeLaws.{length-bytesLE}
 use Rattle.store.proofs.PartLaws.{length-part, part-peel, leAt-first}
 use Rattle.store.proofs.PutLaws.{put-after-at}
-use Rattle.row.proofs.Writing.{stamp-len, pointer-len}
+use Rattle.row.proofs.Writing.{stamp-len, pointer-len, length-record}
 use Rattle.row.proofs.Exact.{cell-flat, read-is-written, cell-placed}
 use Rattle.leaf.proofs.Rowing.{endOf}
 use Rattle.leaf.proofs.Chain.{Chain}
@@ -27,10 +27,6 @@ pub records-append : (xs ys : List Row) → records (xs ++ ys) ≡ records xs ++
 unfolding records
 records-append [] ys = refl
 records-append (x ∷ xs) ys = rw (records-append xs ys) (simp append-assoc)
-
-record-length : (kind : ℕ) (x : List ℕ) → length (recordBytes kind x) ≡ 6 + length x
-unfolding recordBytes
-record-length kind x = rw (length-append, length-append, length-bytesLE, length-bytesLE) (omega arith)
 
 -- ---- one cell
 
@@ -71,7 +67,7 @@ module _ (s : List ℕ) (B : AreBytes s) where
   chain-records at (c ∷ cs) h =
       let r = cell-record s at c B (h .0) in
       let l : length (rowBytes (rowOf s c)) ≡ c .next - at = sym (ap length (r .bytes)) ∙ length-part at (c .next - at) s (omega (arith, r .low, r .inside)) in
-      omega (arith, chain-records (c .next) cs (h .1), length-append (recordBytes 1 (rowBytes (rowOf s c))) (records (map (rowOf s) cs)), record-length 1 (rowBytes (rowOf s c)), r .low)
+      omega (arith, chain-records (c .next) cs (h .1), length-append (recordBytes 1 (rowBytes (rowOf s c))) (records (map (rowOf s) cs)), length-record 1 (rowBytes (rowOf s c)), r .low)
 
   pub chain-few : (at : ℕ) (cs : List Cell) → Chain s at cs → at + 19 * length cs ≤ endOf at cs
   unfolding endOf
@@ -101,7 +97,7 @@ first-cell s B (suc n) at z h q = rw q (by-read (cellAt s at) refl h)
         let m : suc n - 1 ≡ n = omega arith in
         let width = length-part at (c .next - at) s (omega (arith, r .low, r .inside)) in
         let rest : records (rowsOf (suc n) at s) ≡ recordBytes 1 (part at (c .next - at) s) ++ records (rowsOf n (c .next) s) = rw (e, r .bytes) in
-        let size : length (recordBytes 1 (part at (c .next - at) s)) ≡ 6 + (c .next - at) = record-length 1 (part at (c .next - at) s) ∙ rw width in
+        let size : length (recordBytes 1 (part at (c .next - at) s)) ≡ 6 + (c .next - at) = length-record 1 (part at (c .next - at) s) ∙ rw width in
         rw (← r .next)
         (record {
           low = r .low;

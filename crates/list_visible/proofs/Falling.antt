@@ -25,8 +25,9 @@ use Rattle.list_visible.specs.declared.ChainBound.{ChainBound}
 use Rattle.store.proofs.PartLaws.{length-part}
 use Rattle.list_visible.proofs.Beside.{Alike, rows-beside}
 use Rattle.list_visible.proofs.Choosing.{records-append}
-use Rattle.list_visible.proofs.Standing.{length-record, cell-whole, cell-record}
+use Rattle.list_visible.proofs.Standing.{cell-whole, cell-record}
 use Rattle.list_visible.proofs.Bounding.{judging-bound}
+use Rattle.row.proofs.Writing.{length-record}
 
 -- ---- keys that fall
 

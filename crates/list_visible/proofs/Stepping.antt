@@ -19,7 +19,7 @@ use Rattle.list_visible.specs.declared.pass.Wait.{Wait}
 use Rattle.list_visible.specs.declared.pass.Scan.{Scan}
 use Rattle.store.proofs.PartLaws.{length-part}
 use Rattle.store.proofs.PutLaws.{put-nil, length-put}
-use Rattle.list_visible.proofs.Standing.{length-record}
+use Rattle.row.proofs.Writing.{length-record}
 
 -- ---- what waits
 

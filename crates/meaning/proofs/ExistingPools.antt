@@ -23,14 +23,15 @@ use Rattle.theory_tree.specs.Shape.{Shape, WellFormed}
 use Rattle.meaning.specs.Trees.{TreeIn}
 use Rattle.meaning.specs.Meant.{liveRow}
 use Rattle.store.proofs.LeLaws.{length-putAt, leAt-putAt, leAt-putAt-above}
-use Rattle.page.proofs.PageLaws.{length-setPage}
+use Rattle.page.proofs.PageLaws.{length-setPage, length-zeros}
 use Rattle.page.proofs.PoolLaws.{pool-in-use}
 use Rattle.leaf.proofs.Rowing.{length-rows}
 use Rattle.theory_tree.proofs.Workers.{setPar}
-use Rattle.theory_stores.proofs.Keeping.{bytes-more, bytes-none, bytes-append, bytes-zeros, bytes-field, bytes-part, bytes-pad, bytes-set-page, bytes-cell}
+use Rattle.theory_stores.proofs.Keeping.{bytes-more, bytes-none, bytes-append, bytes-zeros, bytes-field, bytes-pad, bytes-set-page, bytes-cell}
 use Rattle.theory_stores.proofs.Viewing.{view-set, said-parent, said-root}
 use Rattle.theory_stores.proofs.Rowing.{rows-long, said-rows}
 use Rattle.theory_stores.proofs.Entering.{top-long, said-top}
+use Rattle.store.proofs.PartLaws.{bytes-part}
 
 -- ---- pages
 
@@ -40,9 +41,6 @@ pub record Made (x : Page) : Type 0 where
   pub long : length bytes ≡ 4096
   pub are : AreBytes bytes
   pub says : said bytes ≡ x
-
-blank-long : length (zeros 4096) ≡ 4096
-blank-long = length-replicate {A = ℕ} 4096 0
 
 -- the header of a leaf over zeros
 module _ (par nxt : ℕ) (p : par < 4294967296) (n : nxt < 4294967296) where
@@ -56,20 +54,20 @@ module _ (par nxt : ℕ) (p : par < 4294967296) (n : nxt < 4294967296) where
   header = withNodeType 1 under
 
   header-long : length header ≡ 4096
-  header-long = rw (length-putAt, length-putAt, length-putAt) blank-long
+  header-long = rw (length-putAt, length-putAt, length-putAt) length-zeros
 
   header-bytes : AreBytes header
   header-bytes = bytes-field 1 under 0 1 (bytes-field 4 linked 2 par (bytes-field 4 (zeros 4096) 8 nxt (bytes-zeros 4096)))
 
   header-type : nodeType header ≡ 1
-  header-type = leAt-putAt 1 under 0 1 (rw (length-putAt, length-putAt) (omega (arith, blank-long))) (omega arith)
+  header-type = leAt-putAt 1 under 0 1 (rw (length-putAt, length-putAt) (omega (arith, length-zeros))) (omega arith)
 
   header-parent : parentOf header ≡ par
-  header-parent = leAt-putAt-above 4 1 under 0 1 2 (omega arith) ∙ leAt-putAt 4 linked 2 par (rw length-putAt (omega (arith, blank-long))) p
+  header-parent = leAt-putAt-above 4 1 under 0 1 2 (omega arith) ∙ leAt-putAt 4 linked 2 par (rw length-putAt (omega (arith, length-zeros))) p
 
   header-next : nextLeaf header ≡ nxt
   header-next =
-      leAt-putAt-above 4 1 under 0 1 8 (omega arith) ∙ leAt-putAt-above 4 4 linked 2 par 8 (omega arith) ∙ leAt-putAt 4 (zeros 4096) 8 nxt (omega (arith, blank-long)) n
+      leAt-putAt-above 4 1 under 0 1 8 (omega arith) ∙ leAt-putAt-above 4 4 linked 2 par 8 (omega arith) ∙ leAt-putAt 4 (zeros 4096) 8 nxt (omega (arith, length-zeros)) n
 
   -- a leaf with these rows; top is its is-root byte
   pub leaf-made : (top : ℕ) (rs : List Row) → AllFit rs → AreBytes (rowsBytes rs) → length (rowsBytes rs) ≤ 4084 → Made (leafPage par nxt rs)
@@ -104,7 +102,7 @@ inner-made top par left sep right p l s r =
     over = topPage left sep right (zeros 4096)
 
     over-long : length over ≡ 4096
-    over-long = top-long left sep right (zeros 4096) blank-long
+    over-long = top-long left sep right (zeros 4096) length-zeros
 
     over-bytes : AreBytes over
     over-bytes = bytes-over left sep right

@@ -22,14 +22,13 @@ use Rattle.tree_stamp.specs.declared.Target.{Target}
 use Rattle.page.proofs.PageLaws.{page-short}
 use Rattle.row.proofs.Exact.{read-is-written, cell-placed}
 use Rattle.row.proofs.Writing.{pointer-len}
-use Rattle.leaf.proofs.CutFacts.{stamp-divides}
+use Rattle.leaf.proofs.CutFacts.{stamp-divides, between-append}
 use Rattle.leaf.proofs.Chain.{Chain}
 use Rattle.leaf.proofs.Bytes.{bytes-page}
 use Rattle.tree_room.proofs.Telling.{plan-told}
 use Rattle.tree_room.proofs.Keeping.{planned-is}
 use Rattle.tree_stamp.proofs.Meeting.{Stands, target-stands}
 use Rattle.tree_stamp.proofs.Cutting.{m, xs, ys, all, live, whole-sum, cut-is}
-use Rattle.tree_stamp.proofs.Sums.{between-append}
 
 -- a cell has 19 bytes at least, and a page has 4084 for its cells
 sizes-bound : (pg : List ℕ) → length pg ≤ 4096 → (at : ℕ) (cs : List Cell) → 12 ≤ at → Chain pg at cs → Between 19 4084 (sizesOf cs)

@@ -37,13 +37,14 @@ use Rattle.theory_tree.proofs.Contexts.{top-key, Ctx, preC, postC, loC, hiC}
 use Rattle.theory_tree.proofs.Entries.{path}
 use Rattle.theory_walks.proofs.Walking.{AtLeaf, at-leaf}
 use Rattle.theory_walks.proofs.Looking.{Standing, standing-chain}
-use Rattle.theory_stores.proofs.Keeping.{bytes-part, bytes-spliced, bytes-cell}
+use Rattle.theory_stores.proofs.Keeping.{bytes-spliced, bytes-cell}
 use Rattle.theory_plan.proofs.Linking.{planAbove}
 use Rattle.theory_plan.proofs.Rooms.{room-told}
 use Rattle.theory_plan.proofs.Leaves.{leaf-held}
 use Rattle.theory_plan.proofs.Stamps.{met-sound, stampedRows, stamp-keys, stamp-sorted, stamp-count, stamp-all-fit, stamp-spliced-is, stamp-fits-bytes, stamp-cut}
 use Rattle.meaning.proofs.Judging.{formed-at, targetFor, stampPlanned, stampRoom}
 use Rattle.meaning.proofs.Storing.{Holding, leaf-stored, leaf-divided}
+use Rattle.store.proofs.PartLaws.{bytes-part}
 
 -- ---- the last row that a test accepts, where it stands
 

@@ -28,7 +28,6 @@ use Rattle.theory_tree.specs.Shape.{Shape, leaf, chain, KeysIn, Sorted, WellFor
 use Rattle.meaning.specs.Trees.{TreeIn}
 use Rattle.page.proofs.PageLaws.{length-page, length-setPage}
 use Rattle.page.proofs.PoolLaws.{pool-is}
-use Rattle.tree.proofs.Ways.{and-both}
 use Rattle.theory_tree.proofs.Contexts.{top-key, Ctx, plug, preC, postC, preG, postG, loC, hiC, parC, nxtC, Grown as Raised}
 use Rattle.theory_tree.proofs.Entries.{path}
 use Rattle.theory_tree.proofs.Lists.{all-right}
@@ -44,6 +43,7 @@ use Rattle.theory_plan.proofs.Leaves.{leaf-held}
 use Rattle.theory_plan.proofs.Rooms.{HasRoom, GrowsIn, grows-in}
 use Rattle.theory_grow.proofs.Settling.{usedAfter, Settled, dividedTree, divided-up-wf}
 use Rattle.meaning.proofs.Judging.{formed-at}
+use Rattle.store.proofs.Tests.{and-both}
 
 -- ---- the pool is still none that is refused
 

@@ -53,10 +53,6 @@ module _ (xmax : ℕ) (active : List ℕ) (s t : ℕ) where
     unfolding finishedWith
     finished-else h a b e = simp (ne-eqb t 0 n, lt-ltb t xmax h, e, ne-eqb s 1 a, ne-eqb s 3 b)
 
-pub finished-at : (sn : Snapshot) (st : ℕ → ℕ) (t s : ℕ) → s ≡ st t → finishedWith (sn .xmax) (sn .active) s t ≡ finishedBefore sn st t
-unfolding finishedBefore
-finished-at sn st t s is = rw is
-
 -- ---- visible
 
 module _ (sn : Snapshot) (st : ℕ → ℕ) where

@@ -4,11 +4,11 @@ use mathlib.Core.List.{List}
 use mathlib.Core.Logic.{⊎-elim}
 use Prim.Native.Nat.{ℕ, _+_, _-_, _*_, _/_, _%_, _≤_, _<_}
 use native.Mathlib.Omega.{arith}
-use lib.ListN.{length, getD, take, drop, length-take}
+use lib.ListN.{length, getD, take, drop, length-take, length-replicate}
 use lib.Seq.{ext-getD}
 use borrow.Rule.Slice.PartMut.{midOf, putMid}
 use Rattle.store.specs.Le.{leAt, putAt}
-use Rattle.store.specs.Part.{part, put}
+use Rattle.store.specs.Part.{part, put, zeros}
 use Rattle.page.specs.Page.{page, setPage}
 use Rattle.store.proofs.PartLaws.{lent, back, le-or-lt, length-part, leAt-part, length-splice, part-splice, part-splice-below, part-splice-above, putAt-splice, splice-splice, splice-part, splice-within, part-part, getD-part}
 
@@ -79,8 +79,5 @@ getD-page s i =
     let e : i ≡ i / 4096 * 4096 + i % 4096 = omega arith in
     ap (λ (k : ℕ). getD s k 0) e ∙ sym (getD-part (i / 4096 * 4096) 4096 s (i % 4096) (omega arith))
 
--- a pool is what its pages are
-pub pool-ext : (n : ℕ) (s t : List ℕ) → length s ≡ n * 4096 → length t ≡ n * 4096 → ((p : ℕ) → p < n → page p s ≡ page p t) → s ≡ t
-pool-ext n s t ls lt h =
-    ext-getD 0 s t (ls ∙ sym lt) (λ i b.
-    getD-page s i ∙ ap (λ (pg : List ℕ). getD pg (i % 4096) 0) (h (i / 4096) (omega arith)) ∙ sym (getD-page t i))
+pub length-zeros : length (zeros 4096) ≡ 4096
+length-zeros = length-replicate {A = ℕ} 4096 0

@@ -7,7 +7,7 @@ use lib.ListN.{length, length-append}
 use Rattle.store.specs.Le.{bytesLE, putAt}
 use Rattle.store.specs.Part.{put}
 use Rattle.page.specs.Key.{flip, keyBytes}
-use Rattle.row.specs.Write.{stampBytes, pointerBytes, stampLen, pointerLen, cellSize, headBytes, cellBytes}
+use Rattle.row.specs.Write.{stampBytes, pointerBytes, stampLen, pointerLen, cellSize, headBytes, cellBytes, recordBytes}
 use Rattle.row.specs.declared.Stamp.{Stamp}
 use Rattle.row.specs.declared.Pointer.{Pointer}
 use Rattle.store.proofs.LeLaws.{length-bytesLE, one-byte}
@@ -112,3 +112,7 @@ cell-done s key creator st pt body {a} {b} h ha hb p₁ p₂ p₃ p₄ =
     p₄
     ∙ rw (p₃, p₂, p₁, n, put-after-at 0 17 x₁ (stampBytes st) s (omega arith) l₁, put-after-at 0 a x₂ (pointerBytes pt) s (omega arith) l₂, put-after-at 0 b x₃ body s (omega arith) l₃)
     (simp append-assoc)
+
+pub length-record : (kind : ℕ) (x : List ℕ) → length (recordBytes kind x) ≡ 6 + length x
+unfolding recordBytes
+length-record kind x = rw (length-append, length-append, length-bytesLE 4 (2 + length x), length-bytesLE 2 kind) (omega arith)

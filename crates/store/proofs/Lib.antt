@@ -2,3 +2,4 @@ pub mod LeLaws
 pub mod PartLaws
 pub mod PutLaws
 pub mod SeamLaws
+pub mod Tests

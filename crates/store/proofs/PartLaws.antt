@@ -7,7 +7,7 @@ use native.Mathlib.Nat.{sub-zero, zero-sub, suc-sub-suc, add-assoc, mod-eq-of-lt
 use native.Mathlib.Numerals.{add-one}
 use native.Mathlib.Omega.{arith}
 use borrow.Rule.Slice.PartMut.{midOf, putMid}
-use lib.ListN.{length, getD, set, take, drop, length-append, length-take, length-drop, List·getD-append, take-append-drop}
+use lib.ListN.{length, getD, set, take, drop, List·getD-eq-default, length-append, length-take, length-drop, List·getD-append, take-append-drop}
 use lib.Seq.{length-take-le, getD-take, getD-drop, getD-append-add, ext-getD, take-set-lt, drop-set-add, take-at, drop-at, take-suc, drop-drop, take-take, take-nil, take-add}
 use Rattle.store.specs.Le.{AreBytes, leAt, bytesLE, putAt}
 use Rattle.store.specs.Part.{part, splice}
@@ -235,3 +235,17 @@ pub leAt-first : (w a m x : ℕ) (t s : List ℕ) → w ≤ m → x < 256 ^ w �
 leAt-first w a m x t s h l e =
     let k : a + 0 ≡ a = omega arith in
     sym (rw k at (leAt-part w a m s 0 (omega arith))) ∙ (rw e (leAt-bytes w x [] t 0 refl) ∙ mod-eq-of-lt l)
+
+length-part-le : (a n : ℕ) (s : List ℕ) → length (part a n s) ≤ n
+unfolding part
+length-part-le a n s = rw length-take (omega arith)
+
+pub bytes-part : (a n : ℕ) (s : List ℕ) → AreBytes s → AreBytes (part a n s)
+bytes-part a n s B i =
+    ⊎-elim
+    (λ (h : n ≤ i). rw (List·getD-eq-default (part a n s) 0 (short h)) (omega arith))
+    (λ (h : i < n). rw (getD-part a n s i h) (B (a + i)))
+    (le-or-lt n i)
+  where
+    short : n ≤ i → length (part a n s) ≤ i
+    short h = omega (arith, length-part-le a n s)

@@ -193,11 +193,6 @@ put-before a x y s h =
     put-def a x (put (a + length x) y s)
     ∙ rw (take-put (a + length x) y s h a l, drop-put (a + length x) y s h, put-def, length-append, append-assoc, add-assoc)
 
--- over the same place the later one stands
-pub put-put : (a : ℕ) (x y s : List ℕ) → a ≤ length s → length x ≡ length y → put a y (put a x s) ≡ put a y s
-put-put a x y s h l =
-    put-def a y (put a x s) ∙ rw (take-put a x s h a (le-refl a), ← l, drop-past a x s h (a + length x) (le-refl (a + length x)), l, ← put-def)
-
 -- ---- a lent part that has come back
 
 pub part-back : (s y : List ℕ) (a e : ℕ) → a ≤ e → e ≤ length s → length y ≡ length (midOf a (e - a) s) → putMid a (e - a) s y ≡ put a y s

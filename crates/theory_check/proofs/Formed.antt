@@ -15,7 +15,6 @@ use Rattle.tree.specs.Distinct.{distinct}
 use Rattle.theory_tree.specs.Pages.{Page, leafPage, innerPage}
 use Rattle.theory_tree.specs.View.{view, entriesOf}
 use Rattle.theory_tree.specs.Shape.{Shape, leaf, node, pair, pagesIn, head, rest, Deep, All, Bounded, Sized, IsTree, WellFormed}
-use Rattle.tree.proofs.Ways.{and-both}
 use Rattle.tree_check.proofs.Linking.{each-one}
 use Rattle.theory_tree.proofs.Workers.{roots}
 use Rattle.theory_tree.proofs.Entries.{headOf, restOf, kids}
@@ -28,6 +27,7 @@ use Rattle.theory_walks.proofs.Paging.{leaf-at, inner-at, keys-of, children-of}
 use Rattle.theory_check.proofs.Paging.{LeafFits, InnerFits, Climbs, climbs-append, leaf-sound, inner-sound, sound-leaf, sound-inner}
 use Rattle.theory_check.proofs.Hanging.{ends, Hung, hung, links, holds, later}
 use Rattle.theory_check.proofs.Hanging.{links-all, linked-all, pages-of, ends-of, none-twice, twice-none}
+use Rattle.store.proofs.Tests.{and-both}
 
 -- the keys of a run's entries
 abbrev seps : List (ℕ × ℕ) → List ℕ

@@ -14,12 +14,12 @@ use Rattle.tree.specs.Distinct.{distinct}
 use Rattle.theory_tree.specs.Pages.{leafPage, innerPage}
 use Rattle.theory_tree.specs.View.{view}
 use Rattle.theory_tree.specs.Shape.{Shape, leaf, node, pair, pagesIn, head, rest, first, Holds, Deep, NoneTwice, LaterNotZero}
-use Rattle.tree.proofs.Ways.{and-both}
 use Rattle.tree_check.proofs.Linking.{each-append}
 use Rattle.theory_tree.proofs.Workers.{roots}
 use Rattle.theory_tree.proofs.Lists.{mem-out, out-mem}
 use Rattle.theory_tree.proofs.Enter.{roots-is}
 use Rattle.theory_walks.proofs.Paging.{leaf-at, children-of}
+use Rattle.store.proofs.Tests.{and-both}
 
 -- the page numbers of the leaves, left to right
 abbrev pub ends : Shape → List ℕ

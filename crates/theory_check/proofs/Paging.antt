@@ -24,10 +24,10 @@ use Rattle.tree_check.specs.Check.{within, allWithin, cellsWithin, soundLeaf, s
 use Rattle.theory_tree.specs.Shape.{All, KeysIn, NotAfter, Sorted}
 use Rattle.leaf.proofs.Chain.{Rising, judged-leaf}
 use Rattle.inner.proofs.Routing.{judge-ok}
-use Rattle.tree.proofs.Ways.{and-both}
 use Rattle.theory_tree.proofs.Lists.{all-map}
 use Rattle.theory_tree.proofs.Order.{btw-above, btw-below}
 use Rattle.theory_walks.proofs.Paging.{leaf-judged}
+use Rattle.store.proofs.Tests.{and-both}
 
 -- ---- the order of rows
 

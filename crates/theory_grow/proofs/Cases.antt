@@ -30,7 +30,7 @@ use Rattle.store.proofs.LeLaws.{length-putAt, leAt-putAt, leAt-putAt-above}
 use Rattle.store.proofs.PartLaws.{le-or-lt, leAt-same, part-part}
 use Rattle.store.proofs.SeamLaws.{part-left, part-right}
 use Rattle.page.proofs.KeyLaws.{flip-less}
-use Rattle.page.proofs.PageLaws.{length-page, length-setPage, page-setPage, page-setPage-other}
+use Rattle.page.proofs.PageLaws.{length-page, length-setPage, page-setPage, page-setPage-other, length-zeros}
 use Rattle.tree_grow.proofs.Stepping.{top-root, top-used, top-right}
 use Rattle.theory_tree.proofs.Says.{InnerSays, inner-says}
 use Rattle.theory_stores.proofs.Entering.{says-children, top-long, top-in-long, said-top-in}
@@ -117,9 +117,6 @@ module _ (m p : ℕ) (less : p < m) where
 
 abbrev Long : List ℕ → Type 0
 Long s = 7 * 4096 ≤ length s
-
-length-zeros : length (zeros 4096) ≡ 4096
-length-zeros = length-replicate {A = ℕ} 4096 0
 
 kept-fresh : (s : List ℕ) (st : State) → Long s → (3 ≡ st .used → ⊥) → st .used < 7 → Kept 7 3 s (withFresh s st)
 unfolding withFresh nextPage

@@ -38,10 +38,10 @@ use Rattle.store.proofs.LeLaws.{length-putAt, leAt-putAt}
 use Rattle.store.proofs.PartLaws.{le-or-lt, length-part}
 use Rattle.store.proofs.SeamLaws.{length-pad, part-left, part-whole}
 use Rattle.page.proofs.KeyLaws.{flip-less}
-use Rattle.page.proofs.PageLaws.{length-page, length-setPage, page-setPage, page-setPage-other}
+use Rattle.page.proofs.PageLaws.{length-page, length-setPage, page-setPage, page-setPage-other, length-zeros}
 use Rattle.leaf.proofs.Bytes.{bytes-page}
 use Rattle.leaf.proofs.Rowing.{rows-append}
-use Rattle.inner_edit.proofs.Dividing.{length-right}
+use Rattle.inner_edit.proofs.Dividing.{length-right, middle-less}
 use Rattle.inner_edit.proofs.Facts.{halves-divide}
 use Rattle.inner_edit.proofs.Lists.{children-read, read-ext}
 use Rattle.tree_grow.proofs.Halving.{left-long, right-long}
@@ -103,14 +103,7 @@ kids-before P l e h (y ∷ r) a = by-first (eqb h l) a (kids-before P l e (y .1)
     by-first true z ih = (z .0, z .1 .1)
     by-first false z ih = (z .0, ih (z .1))
 
-middle-less : (i sep new : ℕ) (pg : List ℕ) → middleKey i sep new pg < 4294967296
-unfolding middleKey
-middle-less i sep new pg = flip-less _
-
 -- ---- stores to pages other than x, in a pool of n bytes
-
-length-zeros : length (zeros 4096) ≡ 4096
-length-zeros = length-replicate {A = ℕ} 4096 0
 
 right-count : (i sep new : ℕ) (pg zs : List ℕ) → length pg ≡ 4096 → cellCount pg ≡ 510 → i ≤ 510 → length zs ≡ 4096 → cellCount (rightHalf i sep new pg zs) ≡ 255
 unfolding rightHalf
@@ -596,26 +589,6 @@ enter-stays x n (under p c) s s′ l g w m sep new long low f above B room few h
         let i : suc u ≤ up c raised (suc u) .used = up-more c raised (suc u) in
         halves n c g w s s′ l m sep new p long low f above B room₀ few₀ full (omega arith, omega (arith, long)) x
         (outside n c g w s s′ l m sep new p long low f above B room₀ few₀ x h ne out) out room₁ few₁ again
-
--- under what `enter-holds` asks for, where the root is not needed
-pub enter-elsewhere : (c : Ctx) (g : Grown) (s s′ : Shape) (l sep new : ℕ) → sep < 4294967296
-    → Entry 0 c (withPage (view (g .pool)) new (setPar (parC 0 c) (view (g .pool) new))) s s′ l (sep, new) (g .state .used)
-    → AreBytes (g .pool) → up c s′ (g .state .used) .used * 4096 ≤ length (g .pool) → up c s′ (g .state .used) .used ≤ 65536
-    → (x : ℕ) → x < g .state .used → (x ≡ new → ⊥) → mem x (pagesIn (plug c s)) ≡ false → page x (enterOf (path c) l sep new g .pool) ≡ page x (g .pool)
-enter-elsewhere c g s s′ l sep new low f B room few x h ne out =
-    let w : Pages = view (g .pool) in
-    let v : Pages = tied w new (parC 0 c) in
-    let tie : (z : List ℕ) → All (λ q. Out q z) (pagesIn s′) → Agree v w z = λ z d.
-    all-map (λ q. new ≡ q → ⊥) (λ q. w q ≡ v q) (λ q d. sym (withPage-other w new q (setPar (parC 0 c) (w new)) d)) z
-    (ins-own (λ q. Out q z) l (sep, new) s s′ (f .ins) (roots-all (λ q. Out q z) s′ d) .1) in
-    let before : All (λ q. Out q (pagesIn s′ ++ postG c)) (preG c) = nd-apart (preG c) (pagesIn s′ ++ postG c) (f .distinct) in
-    let above : HoldsC w 0 0 c (head s) (rest s) (first s) =
-    repC-frame v w 0 0 c (head s) (rest s) (first s)
-    (tie (preG c) (out-flip (preG c) (pagesIn s′) (all-map (λ q. Out q (pagesIn s′ ++ postG c)) (λ q. Out q (pagesIn s′))
-    (λ q d. all-left (λ k. q ≡ k → ⊥) (pagesIn s′) (postG c) d) (preG c) before)))
-    (tie (postG c) (nd-apart (pagesIn s′) (postG c) (nd-right (preG c) (pagesIn s′ ++ postG c) (f .distinct))))
-    (f .above) in
-    enter-stays x (length (g .pool)) c s s′ l g v sep sep new refl low f above B room few h ne (mem-out x (pagesIn (plug c s)) out) .same
 
 -- ---- a leaf divides, and all that follows
 

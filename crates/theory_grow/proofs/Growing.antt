@@ -41,6 +41,7 @@ use Rattle.theory_tree.proofs.Says.{InnerSays, inner-says}
 use Rattle.theory_stores.proofs.Viewing.{view-page, view-linked}
 use Rattle.theory_stores.proofs.Entering.{says-count, mid}
 use Rattle.theory_stores.proofs.Stepping.{bytes-linked, view-joined, joined-length, joined-bytes, view-halved, halved-length, halved-bytes, view-top, topped-length, topped-bytes}
+use Rattle.inner_edit.proofs.Dividing.{middle-less}
 
 -- the pool h holds the tree y, with L bytes as before
 pub record Grew (L : ℕ) (h : Grown) (y : Raised) : Type 0 where
@@ -64,10 +65,6 @@ up-more (under p c) s u =
     by-size : (x : Bool) → suc u ≤ more .used → u ≤ pick x (record { shape = plug c (node p s); used = u; grew = 0 }) more .used
     by-size true i = omega arith
     by-size false i = omega arith
-
-middle-less : (i sep new : ℕ) (pg : List ℕ) → middleKey i sep new pg < 4294967296
-unfolding middleKey
-middle-less i sep new pg = flip-less _
 
 -- page n gets the parent q
 abbrev pub tied : Pages → (n q : ℕ) → Pages

@@ -27,7 +27,7 @@ use Rattle.theory_tree.specs.Shape.{leaf, All, KeysIn, NotAfter, Sorted, WellFo
 use Rattle.store.proofs.PartLaws.{le-or-lt}
 use Rattle.leaf.proofs.Rowing.{length-rows}
 use Rattle.leaf.proofs.RowFacts.{rows-fill}
-use Rattle.leaf_edit.proofs.EditFacts.{insert-spliced, insert-inserts}
+use Rattle.leaf_edit.proofs.EditFacts.{insert-spliced, insert-inserts, length-insert}
 use Rattle.tree_insert.proofs.Spotting.{SpotIs}
 use Rattle.tree_insert.proofs.Cutting.{Sides, sides}
 use Rattle.theory_tree.proofs.Workers.{after}
@@ -121,9 +121,6 @@ module _ (pg : List ℕ) (r : Row) where
       rw n (p .puts)
 
 -- ---- what the leaf then holds
-
-length-insert : (i : ℕ) (r : Row) (rs : List Row) → length (insertRow i r rs) ≡ length rs + 1
-length-insert i r rs = omega (arith, length-append (take i rs) (r ∷ drop i rs), length-append (take i rs) (drop i rs), ap length (take-append-drop i rs))
 
 bytes-insert : (i : ℕ) (r : Row) (rs : List Row) → length (rowsBytes (insertRow i r rs)) ≡ rowSize r + length (rowsBytes rs)
 bytes-insert zero r rs = length-rows r rs

@@ -16,9 +16,8 @@ use Rattle.leaf.specs.declared.place.Cut.{Cut}
 use Rattle.row.proofs.Exact.{cell-placed}
 use Rattle.leaf.proofs.Rowing.{length-rows, rows-append}
 use Rattle.leaf.proofs.Chain.{Chain}
-use Rattle.leaf.proofs.CutFacts.{cut-is-best}
+use Rattle.leaf.proofs.CutFacts.{cut-is-best, fits-is}
 use Rattle.leaf_edit.proofs.Editing.{cell-ends}
-use Rattle.tree_insert.proofs.Cutting.{fits-is}
 use Rattle.tree_insert.proofs.Storing.{cell-size}
 
 -- ---- sizes

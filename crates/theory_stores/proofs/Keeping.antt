@@ -12,6 +12,7 @@ use Rattle.page.specs.Page.{setPage}
 use Rattle.row.specs.Write.{stampLen, pointerLen, stampBytes, pointerBytes, headBytes, cellBytes}
 use Rattle.row.specs.declared.Pointer.{Pointer}
 use Rattle.row.specs.declared.Stamp.{Stamp}
+use Rattle.store.proofs.PartLaws.{bytes-part}
 
 -- ---- lists
 
@@ -70,10 +71,6 @@ bytes-field zero s a x b = b
 bytes-field (suc w) s a x b = bytes-field w (set s a (x % 256)) (a + 1) (x / 256) (bytes-set s a (x % 256) b (omega arith))
 
 -- ---- parts
-
-pub bytes-part : (a n : ℕ) (s : List ℕ) → AreBytes s → AreBytes (part a n s)
-unfolding part
-bytes-part a n s b = bytes-take n (drop a s) (bytes-drop a s b)
 
 pub bytes-pad : (n : ℕ) (x : List ℕ) → AreBytes x → AreBytes (pad n x)
 unfolding pad

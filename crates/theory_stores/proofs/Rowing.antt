@@ -18,19 +18,15 @@ use Rattle.store.proofs.LeLaws.{length-putAt, leAt-lt, leAt-putAt, leAt-putAt-a
 use Rattle.page.proofs.PageLaws.{length-page, length-setPage}
 use Rattle.leaf.proofs.Bytes.{bytes-page}
 use Rattle.leaf.proofs.Rowing.{length-rows}
-use Rattle.leaf.proofs.RowFacts.{rows-are-read}
+use Rattle.leaf.proofs.RowFacts.{rows-are-read, rows-few}
 use Rattle.leaf_divide.proofs.DivideFacts.{divide-divides}
 use Rattle.theory_tree.proofs.Says.{leaf-said, leaf-says}
-use Rattle.theory_stores.proofs.Keeping.{zero-number, bytes-append, bytes-field, bytes-part, bytes-pad, bytes-set-page}
+use Rattle.theory_stores.proofs.Keeping.{zero-number, bytes-append, bytes-field, bytes-pad, bytes-set-page}
 use Rattle.theory_stores.proofs.Making.{made-long, made-count, made-below, length-headed, headed-field}
 use Rattle.theory_stores.proofs.Viewing.{view-page, view-set, said-next}
+use Rattle.store.proofs.PartLaws.{bytes-part}
 
 -- ---- rows written
-
-rows-few : (rs : List Row) → length rs ≤ length (rowsBytes rs)
-unfolding rowsBytes
-rows-few [] = omega arith
-rows-few (r ∷ rs) = omega (arith, length-rows r rs, rows-few rs)
 
 module _ (rs : List Row) (pg : List ℕ) (len : length pg ≡ 4096) (few : length (rowsBytes rs) ≤ 4084) where
   fits : length (part 0 12 pg ++ rowsBytes rs) ≤ 4096

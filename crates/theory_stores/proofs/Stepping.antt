@@ -24,7 +24,7 @@ use Rattle.theory_tree.specs.Shape.{All}
 use Rattle.theory_tree.specs.View.{entriesFrom, said, view}
 use Rattle.store.proofs.LeLaws.{length-putAt, leAt-lt, leAt-putAt-above}
 use Rattle.page.proofs.KeyLaws.{flip-less}
-use Rattle.page.proofs.PageLaws.{length-page, length-setPage, page-setPage, page-setPage-other}
+use Rattle.page.proofs.PageLaws.{length-page, length-setPage, page-setPage, page-setPage-other, length-zeros}
 use Rattle.leaf.proofs.Bytes.{bytes-page}
 use Rattle.inner_edit.proofs.Lists.{children-read, read-ext}
 use Rattle.tree_grow.proofs.Likeness.{like-linked, like-both}
@@ -39,13 +39,11 @@ use Rattle.theory_tree.proofs.Lists.{all-map}
 use Rattle.theory_tree.proofs.Pin.{under?, moved}
 use Rattle.theory_tree.proofs.Says.{InnerSays, leaf-says, inner-says}
 use Rattle.theory_tree.proofs.Links.{set-twice}
-use Rattle.theory_stores.proofs.Keeping.{bytes-append, bytes-zeros, bytes-number, bytes-field, bytes-part, bytes-pad, bytes-spliced, bytes-set-page}
+use Rattle.theory_stores.proofs.Keeping.{bytes-append, bytes-zeros, bytes-number, bytes-field, bytes-pad, bytes-spliced, bytes-set-page}
 use Rattle.theory_stores.proofs.Viewing.{view-page, view-set, said-parent, said-root, view-linked, view-linkedBoth, view-fresh}
 use Rattle.theory_stores.proofs.Entering.{says-children, says-count, place-in, entry-long, said-entry, said-left, said-right}
 use Rattle.theory_stores.proofs.Entering.{top-long, said-top, top-in-long, said-top-in}
-
-length-zeros : length (zeros 4096) ≡ 4096
-length-zeros = length-replicate {A = ℕ} 4096 0
+use Rattle.store.proofs.PartLaws.{bytes-part}
 
 -- ---- bytes of the pages that are made
 

@@ -14,8 +14,8 @@ use Rattle.leaf.specs.Rows.{Row, rows}
 use Rattle.inner.specs.Inner.{keyAt, childAt, keysFrom, childrenFrom, keysOf, childrenOf}
 use Rattle.theory_tree.specs.Pages.{Page, leafPage, innerPage, noPage}
 use Rattle.theory_tree.specs.View.{entriesFrom, entriesOf, isLeafPage, isInnerPage, said}
-use Rattle.tree.proofs.Ways.{and-both}
 use Rattle.theory_tree.proofs.Entries.{parOf, nextOf, headOf, restOf, kids}
+use Rattle.store.proofs.Tests.{and-both}
 
 -- 1 a leaf, 2 an internal page, 0 neither
 abbrev pub kindOf : Page → ℕ

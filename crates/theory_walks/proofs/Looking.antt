@@ -28,7 +28,6 @@ use Rattle.theory_tree.specs.View.{view}
 use Rattle.theory_tree.specs.Shape.{Shape, leaf, chain, All, WellFormed}
 use Rattle.theory_tree.specs.Versions.{ofKey, arrivals, when, better, merge, best}
 use Rattle.mvcc.specs.Snapshot.{Snapshot, snapshot}
-use Rattle.tree.proofs.Ways.{and-both}
 use Rattle.theory_tree.proofs.Workers.{flat, larger}
 use Rattle.theory_tree.proofs.Contexts.{Ctx, top, plug, preC, postC, Loc}
 use Rattle.theory_tree.proofs.Lists.{all-app}
@@ -37,6 +36,7 @@ use Rattle.theory_tree.proofs.Abs.{some?}
 use Rattle.theory_tree.proofs.Walk.{locs, cellss, locs-plug}
 use Rattle.theory_walks.proofs.Descending.{descend-search}
 use Rattle.theory_walks.proofs.Walking.{AtLeaf, InTree, at-leaves, Trailed, locs-trailed, locs-chain, gather, gather-chain, walk-key}
+use Rattle.store.proofs.Tests.{and-both}
 
 -- ---- a leaf's cells and its rows
 

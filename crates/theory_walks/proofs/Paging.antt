@@ -26,11 +26,11 @@ use Rattle.leaf.proofs.Walking.{step-in, leaf-cells}
 use Rattle.leaf.proofs.Rowing.{endOf}
 use Rattle.leaf.proofs.Chain.{Rising}
 use Rattle.inner.proofs.Routing.{judge-ok}
-use Rattle.tree.proofs.Ways.{and-both}
 use Rattle.theory_tree.proofs.Says.{LeafSays, InnerSays, leaf-says, inner-says, entries-length, entries-of, kids-of}
 use Rattle.theory_tree.proofs.Entries.{kids}
 use Rattle.theory_tree.proofs.Order.{bnd-le}
 use Rattle.theory_tree.proofs.Seek.{seps-below}
+use Rattle.store.proofs.Tests.{and-both}
 
 -- ---- what a page of the pool says
 

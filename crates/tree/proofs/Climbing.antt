@@ -214,12 +214,6 @@ place-child child (suc n) i j pg e h = by-test (eqb (childAt pg i) child) refl (
     by-test true q ih u l = let w : j ≡ i = omega arith in rw w (eqb-true (childAt pg i) child q)
     by-test false q ih u l = ih (omega arith) (omega arith)
 
--- "hold the child": the child at that place is p
-pub held-child : {used p q : ℕ} {s : List ℕ} (h : Held used p q s) → childAt (page q s) (childPlace p (childrenFrom 0 (h .keys + 1) (page q s))) ≡ p
-held-child {p = p} {q = q} {s = s} h =
-    let l = h .place in
-    place-child p (h .keys + 1) 0 (childPlace p (childrenFrom 0 (h .keys + 1) (page q s))) (page q s) (omega arith) (omega arith)
-
 -- the pages above p, one after another, up to the root
 abbrev pub Rises : (used root p : ℕ) → (s above : List ℕ) → Type 0
 Rises used root p s [] = (p ≡ root) × (parentOf (page p s) ≡ 0)
@@ -344,12 +338,3 @@ pub record Reached (w : Way) (r : Climbed) : Type 0 where
 pub reached : (w : Way) {r : Climbed} → r ≡ climbed w → r .ok ≡ true → Reached w r
 reached (up ps) e t = record { pages = ps; way = refl; path = rw e }
 reached (astray f) e t = absurd (let z : _≡_ {A = Bool} false true = rw e at t in let y : _≡_ {A = ℕ} 0 1 = cc in omega arith)
-
-pub strayed : (w : Way) {r : Climbed} → r ≡ climbed w → r .ok ≡ false → w ≡ astray (r .fault)
-strayed (up ps) e t = absurd (let z : _≡_ {A = Bool} true false = rw e at t in let y : _≡_ {A = ℕ} 0 1 = cc in omega arith)
-strayed (astray f) e t = rw e
-
--- place i of the path that is handed on
-pub path-at : (ps : List ℕ) (i : ℕ) → i < length ps → getD (pathOf ps .pages) i 0 ≡ getD ps i 0
-unfolding pad
-path-at ps i h = List·getD-append ps (zeros (4 - length ps)) 0 i h

@@ -24,7 +24,7 @@ use Rattle.tree.specs.Chain.{Seen, stop, go, broken, Told, ok, ill, alon
 use Rattle.tree.specs.ChainFacts.{meets, turn, Steady, CountIsEnough, Ill, TwiceIsIll}
 use Rattle.tree.specs.Distinct.{distinct}
 use Rattle.mvcc.specs.Snapshot.{Snapshot}
-use Rattle.tree.proofs.Ways.{and-both}
+use Rattle.store.proofs.Tests.{and-both}
 
 -- ---- numbers that stand once each
 

@@ -21,6 +21,7 @@ use Rattle.tree.specs.Descend.{childOf, descendOf}
 use Rattle.tree.specs.Chain.{Seen, stop, go, broken, ok, ill, along, seenBest, seenTest}
 use Rattle.tree.specs.declared.Route.{Route}
 use Rattle.tree.specs.declared.Descent.{Descent}
+use Rattle.store.proofs.Tests.{and-both}
 
 -- ---- internal pages
 
@@ -30,10 +31,6 @@ pub record InnerIs (pg : List ℕ) (n : ℕ) : Type 0 where
   pub some : 1 ≤ n
   pub few : n ≤ 510
   pub rises : neverFalls 0 (keysFrom 0 n pg) ≡ true
-
-pub and-both : (a b : Bool) → (a && b) ≡ true → (a ≡ true) × (b ≡ true)
-and-both true b e = (refl, e)
-and-both false b e = absurd (let z : _≡_ {A = ℕ} 0 1 = cc in omega arith)
 
 pub inner-is : (p : ℕ) (pg : List ℕ) {r : InnerJudged} {n : ℕ} → r ≡ judgeInner p pg → r ≡ InnerJudged.Ok n → InnerIs pg n
 unfolding judgeInner

@@ -17,7 +17,8 @@ use Rattle.tree_check.specs.Check.{within, allWithin, cellsWithin, sound
 use Rattle.tree_check.specs.Steps.Check.{innerSound, kidsOf, checkOf, isFirst}
 use Rattle.tree_check.specs.declared.Verdict.{Verdict}
 use Rattle.tree_check.specs.declared.InnerSound.{InnerSound}
-use Rattle.tree.proofs.Ways.{and-both, InnerIs, inner-is}
+use Rattle.tree.proofs.Ways.{InnerIs, inner-is}
+use Rattle.store.proofs.Tests.{and-both}
 
 -- ---- keys under their bounds
 

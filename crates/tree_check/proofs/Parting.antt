@@ -23,7 +23,7 @@ use Rattle.tree.specs.Descend.{onInner}
 use Rattle.tree_check.specs.Check.{within, allWithin, cellsWithin, soundLeaf, soundInner, soundKids, soundTree, eachOf, leavesOf, pagesOf, leavesLinked}
 use Rattle.tree.specs.Distinct.{distinct}
 use Rattle.tree_check.specs.Steps.CheckFacts.{LinksPart}
-use Rattle.tree.proofs.Ways.{and-both}
+use Rattle.store.proofs.Tests.{and-both}
 
 -- ---- lists without a number twice
 

@@ -18,12 +18,9 @@ use Rattle.tree_grow.specs.Grow.{Grown, topOver, halved, movedTo}
 use Rattle.tree_grow.specs.Steps.Safe.{There, Free, HalvedSafe, RelinkSafe, PinSafe}
 use Rattle.tree_grow.specs.Plan.{firstMoved}
 use Rattle.store.proofs.LeLaws.{length-putAt, leAt-putAt}
-use Rattle.page.proofs.PageLaws.{length-page, length-setPage, page-setPage, page-setPage-other}
+use Rattle.page.proofs.PageLaws.{length-page, length-setPage, page-setPage, page-setPage-other, length-zeros}
 use Rattle.tree_grow.proofs.Likeness.{Alike, alike-eq, alike-trans, alike-parent, alike-root, Like, like-both, ChildrenThere, adopt-all, like-adopted}
 use Rattle.tree_grow.proofs.Halving.{right-below, left-long, right-long}
-
-length-zeros : length (zeros 4096) ≡ 4096
-length-zeros = length-replicate {A = ℕ} 4096 0
 
 -- ---- the page that is handed out
 

@@ -21,37 +21,13 @@ use Rattle.tree_insert.specs.Insert.{bytesWith, cutWith}
 use Rattle.tree_insert.specs.Steps.Insert.{InsertCutStands}
 use Rattle.tree_insert.specs.declared.Spot.{Spot}
 use Rattle.row.proofs.Exact.{cell-placed}
-use Rattle.leaf.proofs.CutFacts.{cut-is-best}
+use Rattle.leaf.proofs.CutFacts.{cut-is-best, sum-append, sum-take, sum-front, sum-past, between-append, fits-is}
 use Rattle.leaf.proofs.Rowing.{endOf}
 use Rattle.leaf.proofs.Chain.{Chain, chain-cells, chain-back, chain-right, end-append, judged-leaf}
-use Rattle.tree.proofs.Ways.{and-both}
 use Rattle.tree_insert.proofs.Spotting.{SpotIs}
+use Rattle.store.proofs.Tests.{and-both}
 
 -- ---- sums
-
-pub sum-append : (xs ys : List ℕ) → sum (xs ++ ys) ≡ sum xs + sum ys
-sum-append [] ys = omega arith
-sum-append (x ∷ xs) ys = omega (arith, sum-append xs ys)
-
-pub sum-take : (i : ℕ) (xs : List ℕ) → sum (take i xs) ≤ sum xs
-sum-take zero xs = omega arith
-sum-take (suc i) [] = omega arith
-sum-take (suc i) (x ∷ xs) = omega (arith, sum-take i xs)
-
--- the first i of xs, m and ys, where m is not among them, and where it is
-pub sum-front : (i : ℕ) (xs ys : List ℕ) → i ≤ length xs → sum (take i (xs ++ ys)) ≤ sum xs
-sum-front zero xs ys h = omega arith
-sum-front (suc i) [] ys h = absurd (omega arith)
-sum-front (suc i) (x ∷ xs) ys h = omega (arith, sum-front i xs ys (omega arith))
-
-pub sum-past : (i : ℕ) (xs : List ℕ) (m : ℕ) (ys : List ℕ) → length xs < i → sum xs + m ≤ sum (take i (xs ++ (m ∷ ys)))
-sum-past zero xs m ys h = absurd (omega arith)
-sum-past (suc i) [] m ys h = omega arith
-sum-past (suc i) (x ∷ xs) m ys h = omega (arith, sum-past i xs m ys (omega arith))
-
-pub between-append : (lo hi : ℕ) (xs ys : List ℕ) → Between lo hi xs → Between lo hi ys → Between lo hi (xs ++ ys)
-between-append lo hi [] ys a b = b
-between-append lo hi (x ∷ xs) ys a b = (a .0, a .1, between-append lo hi xs ys (a .2) b)
 
 sum-none : (xs : List ℕ) → length xs ≡ 0 → sum xs ≡ 0
 sum-none [] h = refl
@@ -78,12 +54,6 @@ module _ (pg : List ℕ) where
       (omega (arith, p .here, p .past-head, p .whole), omega (arith, p .inside), sizes-between (c .next) cs (h .1))
 
 -- ---- the cut
-
-pub fits-is : (t : ℕ) (cut : Cut) → cutFits t cut ≡ true → (1 ≤ cut .cells) × (largerSide t cut ≤ 4084)
-unfolding cutFits
-fits-is t cut e =
-    let b = and-both (leb 1 (cut .cells)) (leb (largerSide t cut) 4084) e in
-    (leb-true 1 (cut .cells) (b .0), leb-true (largerSide t cut) 4084 (b .1))
 
 -- the cells before the place and those from it on
 pub record Sides (x : Spot) (pg : List ℕ) : Type 0 where

@@ -11,11 +11,7 @@ use Rattle.tree_room.specs.Room.{leafPlan}
 use Rattle.tree_room.specs.declared.LeafPlan.{LeafPlan}
 use Rattle.tree_insert.specs.Insert.{bytesWith, cutWith, insertPlan}
 use Rattle.tree_insert.specs.declared.Spot.{Spot}
-
--- where the leaf stays one, there is no cut
-plan-uncut : (st : State) (p : ℕ) (a b : Cut) (s : List ℕ) → leafPlan st p false a s ≡ leafPlan st p false b s
-unfolding leafPlan
-plan-uncut st p a b s = refl
+use Rattle.tree_room.proofs.Rooming.{plan-uncut}
 
 module _ (st : State) (x : Spot) (m : ℕ) (s : List ℕ) {y : LeafPlan} where
   pub insert-over : {cut : Cut} → 4084 < bytesWith x m → cut ≡ cutWith x m (page (x .leaf) s) → y ≡ leafPlan st (x .leaf) true cut s → y ≡ insertPlan st x m s

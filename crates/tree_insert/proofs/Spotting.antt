@@ -33,7 +33,7 @@ use Rattle.page.proofs.PageLaws.{length-page}
 use Rattle.row.proofs.Exact.{cell-placed}
 use Rattle.leaf.proofs.Bytes.{bytes-page}
 use Rattle.leaf.proofs.Rowing.{endOf}
-use Rattle.leaf.proofs.Chain.{Chain, chain-cells, judged-leaf}
+use Rattle.leaf.proofs.Chain.{Chain, chain-cells, judged-leaf, cells-room}
 use Rattle.leaf.proofs.Placed.{PlaceSplit, place-split}
 use Rattle.leaf.proofs.Choosing.{any-page}
 
@@ -85,12 +85,6 @@ module _ (used root key creator : ℕ) (s : List ℕ) {d : Descent} (way : d ≡
     spot-there q = rw (sym way ∙ e, placed-is ∙ q)
 
 -- ---- the spot
-
--- at least 19 bytes a cell
-cells-room : (pg : List ℕ) (at : ℕ) (cs : List Cell) → Chain pg at cs → at + 19 * length cs ≤ endOf at cs
-unfolding endOf
-cells-room pg at [] h = omega arith
-cells-room pg at (c ∷ cs) h = let p = cell-placed pg at c (h .0) in omega (arith, cells-room pg (c .next) cs (h .1), p .past-head, p .whole)
 
 -- no more cells stand before the place than there are
 place-among : (k c : ℕ) (here : Place) (cs : List Cell) → foldCells (placeStep k c) here cs .before ≤ here .before + length cs

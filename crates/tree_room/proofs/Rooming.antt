@@ -132,3 +132,8 @@ module _ (pages : ℕ) (st : State) (t : ℕ) (x : Planned) where
         pub room-some : st .used + 1 + n ≤ pages → 0 ≡ roomOf pages st t x
         unfolding roomOf
         room-some h = rw (not-false (x .over) over, ← fits, not-false b cuts, shallow, ← asked, le-leb (st .used + 1 + n) pages h)
+
+-- where the leaf stays one, there is no cut
+pub plan-uncut : (st : State) (p : ℕ) (a b : Cut) (s : List ℕ) → leafPlan st p false a s ≡ leafPlan st p false b s
+unfolding leafPlan
+plan-uncut st p a b s = refl

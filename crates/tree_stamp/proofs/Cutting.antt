@@ -22,17 +22,11 @@ use Rattle.tree_stamp.specs.Stamp.{longer, bytesStamped, cutStamped}
 use Rattle.tree_stamp.specs.Steps.Stamp.{StampCutStands}
 use Rattle.tree_stamp.specs.declared.Target.{Target}
 use Rattle.store.proofs.PartLaws.{le-or-lt}
-use Rattle.leaf.proofs.CutFacts.{cut-is-best}
+use Rattle.leaf.proofs.CutFacts.{cut-is-best, sum-append, sum-take, sum-front, sum-past, between-append, fits-is}
 use Rattle.leaf.proofs.Chain.{chain-back}
-use Rattle.tree.proofs.Ways.{and-both}
 use Rattle.tree_stamp.proofs.Meeting.{Stands}
-use Rattle.tree_stamp.proofs.Sums.{sum-append, sum-take, sum-front, sum-past, between-append, sizes-sum, sizes-between}
-
-fits-is : (t : ℕ) (cut : Cut) → cutFits t cut ≡ true → (1 ≤ cut .cells) × (largerSide t cut ≤ 4084)
-unfolding cutFits
-fits-is t cut e =
-    let b = and-both (leb 1 (cut .cells)) (leb (largerSide t cut) 4084) e in
-    (leb-true 1 (cut .cells) (b .0), leb-true (largerSide t cut) 4084 (b .1))
+use Rattle.tree_stamp.proofs.Sums.{sizes-sum, sizes-between}
+use Rattle.store.proofs.Tests.{and-both}
 
 -- one cell alone is not cut
 cut-alone : (t m : ℕ) (xs ys : List ℕ) → length xs ≡ 0 → length ys ≡ 0 → cutOf t (xs ++ (m ∷ ys)) .cells ≡ 0

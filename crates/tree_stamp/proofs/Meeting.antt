@@ -35,7 +35,7 @@ use Rattle.mvcc.specs.Snapshot.{Snapshot}
 use Rattle.page.proofs.PageLaws.{page-short}
 use Rattle.row.proofs.Exact.{CellPlaced, cell-placed}
 use Rattle.leaf.proofs.Rowing.{endOf}
-use Rattle.leaf.proofs.Chain.{Chain, chain-cells, chain-right, chain-inside, end-append, judged-leaf}
+use Rattle.leaf.proofs.Chain.{Chain, chain-cells, chain-right, chain-inside, end-append, judged-leaf, cells-room}
 
 -- ---- what a lookup finds
 
@@ -126,12 +126,6 @@ module _ (sn : Snapshot) (st : ℕ → ℕ) (used key : ℕ) (s : List ℕ) wher
       by-way (Descent.Bad f) u = absurd (let z : _≡_ {A = ℕ} 0 1 = cc in omega arith)
 
 -- ---- what stands beside it
-
--- at least 19 bytes a cell
-cells-room : (pg : List ℕ) (at : ℕ) (cs : List Cell) → Chain pg at cs → at + 19 * length cs ≤ endOf at cs
-unfolding endOf
-cells-room pg at [] h = omega arith
-cells-room pg at (c ∷ cs) h = let p = cell-placed pg at c (h .0) in omega (arith, cells-room pg (c .next) cs (h .1), p .past-head, p .whole)
 
 pub chain-front : (pg : List ℕ) (at : ℕ) (xs ys : List Cell) → Chain pg at (xs ++ ys) → Chain pg at xs
 chain-front pg at [] ys h = tt

@@ -13,11 +13,7 @@ use Rattle.tree_stamp.specs.Stamp.{bytesStamped, cutStamped, stampPlan}
 use Rattle.tree_stamp.specs.declared.Target.{Target}
 use Rattle.tree_room.proofs.Keeping.{planned-is}
 use Rattle.tree_room.proofs.Telling.{plan-told}
-
--- where the leaf stays one, there is no cut
-plan-uncut : (st : State) (p : ℕ) (a b : Cut) (s : List ℕ) → leafPlan st p false a s ≡ leafPlan st p false b s
-unfolding leafPlan
-plan-uncut st p a b s = refl
+use Rattle.tree_room.proofs.Rooming.{plan-uncut}
 
 module _ (st : State) (t : Target) (s : List ℕ) {y : LeafPlan} where
   pub stamp-over : {cut : Cut} → 4084 < bytesStamped t → cut ≡ cutStamped t (page (t .leaf) s) → y ≡ leafPlan st (t .leaf) true cut s → y ≡ stampPlan st t s

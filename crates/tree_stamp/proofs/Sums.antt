@@ -11,30 +11,6 @@ use Rattle.row.proofs.Exact.{cell-placed}
 use Rattle.leaf.proofs.Rowing.{endOf}
 use Rattle.leaf.proofs.Chain.{Chain}
 
-pub sum-append : (xs ys : List ℕ) → sum (xs ++ ys) ≡ sum xs + sum ys
-sum-append [] ys = omega arith
-sum-append (x ∷ xs) ys = omega (arith, sum-append xs ys)
-
-pub sum-take : (i : ℕ) (xs : List ℕ) → sum (take i xs) ≤ sum xs
-sum-take zero xs = omega arith
-sum-take (suc i) [] = omega arith
-sum-take (suc i) (x ∷ xs) = omega (arith, sum-take i xs)
-
--- the first i of xs, m and ys, where m is not among them, and where it is
-pub sum-front : (i : ℕ) (xs ys : List ℕ) → i ≤ length xs → sum (take i (xs ++ ys)) ≤ sum xs
-sum-front zero xs ys h = omega arith
-sum-front (suc i) [] ys h = absurd (omega arith)
-sum-front (suc i) (x ∷ xs) ys h = omega (arith, sum-front i xs ys (omega arith))
-
-pub sum-past : (i : ℕ) (xs : List ℕ) (m : ℕ) (ys : List ℕ) → length xs < i → sum xs + m ≤ sum (take i (xs ++ (m ∷ ys)))
-sum-past zero xs m ys h = absurd (omega arith)
-sum-past (suc i) [] m ys h = omega arith
-sum-past (suc i) (x ∷ xs) m ys h = omega (arith, sum-past i xs m ys (omega arith))
-
-pub between-append : (lo hi : ℕ) (xs ys : List ℕ) → Between lo hi xs → Between lo hi ys → Between lo hi (xs ++ ys)
-between-append lo hi [] ys a b = b
-between-append lo hi (x ∷ xs) ys a b = (a .0, a .1, between-append lo hi xs ys (a .2) b)
-
 module _ (pg : List ℕ) where
   pub sizes-sum : (at : ℕ) (cs : List Cell) → Chain pg at cs → at + sum (sizesOf cs) ≡ endOf at cs
   unfolding endOf
