@@ -34,7 +34,8 @@ use Rattle.theory_tree.proofs.Walk.{locs, froms, locs-plug, froms-plug, headPag
 use Rattle.theory_tree.proofs.Search.{froms-head}
 use Rattle.theory_tree.proofs.Pigeon.{pigeon, locs-count, froms-count}
 use Rattle.theory_tree.proofs.Map.{mapS, onLeaf, Keeps, map-wf}
-use Rattle.theory_stores.proofs.Keeping.{bytes-none, bytes-append, bytes-field, bytes-part, bytes-pad, bytes-set-page, bytes-cell}
+use Rattle.theory_stores.proofs.Keeping.{bytes-none, bytes-append, bytes-field, bytes-pad, bytes-set-page, bytes-cell}
+use Rattle.store.proofs.PartLaws.{bytes-part}
 use Rattle.theory_stores.proofs.Viewing.{view-page}
 use Rattle.theory_stores.proofs.Rowing.{rows-long, said-rows}
 use Rattle.theory_walks.proofs.Walking.{AtLeaf, at-leaves, locs-later, before, upTo, gather}
