@@ -3,7 +3,7 @@
 use mathlib.Core.Path.{_≡_, refl, sym, ap, _∙_, subst}
 use mathlib.Core.Bool.{Bool, true, false}
 use mathlib.Core.List.{List, [], _∷_, _++_, map}
-use Prim.Native.Nat.{ℕ, zero, suc, _+_, _-_, _≤_}
+use Prim.Native.Nat.{ℕ, zero, suc, _+_, _-_, _*_, _≤_}
 use native.Mathlib.Omega.{arith}
 use lib.Dec.{eqb}
 use lib.ListN.{length}
@@ -46,7 +46,7 @@ module _ (s : List ℕ) where
   chain-back at [] h = refl
   chain-back at (c ∷ cs) h = rw (h .0, chain-back (c .next) cs (h .1))
 
-  chain-left : (at : ℕ) (xs ys : List Cell) → Chain s at (xs ++ ys) → Chain s at xs
+  pub chain-left : (at : ℕ) (xs ys : List Cell) → Chain s at (xs ++ ys) → Chain s at xs
   chain-left at [] ys h = tt
   chain-left at (x ∷ xs) ys h = (h .0, chain-left (x .next) xs ys (h .1))
 
@@ -55,12 +55,19 @@ module _ (s : List ℕ) where
   chain-right at [] ys h = h
   chain-right at (x ∷ xs) ys h = chain-right (x .next) xs ys (h .1)
 
-  chain-grows : (at : ℕ) (cs : List Cell) → Chain s at cs → at ≤ endOf at cs
+  pub chain-grows : (at : ℕ) (cs : List Cell) → Chain s at cs → at ≤ endOf at cs
   unfolding endOf
   chain-grows at [] h = omega arith
   chain-grows at (c ∷ cs) h =
       let p = cell-placed s at c (h .0) in
       omega (arith, chain-grows (c .next) cs (h .1))
+
+  pub chain-few : (at : ℕ) (cs : List Cell) → Chain s at cs → at + 19 * length cs ≤ endOf at cs
+  unfolding endOf
+  chain-few at [] h = omega arith
+  chain-few at (c ∷ cs) h =
+      let p = cell-placed s at c (h .0) in
+      omega (arith, chain-few (c .next) cs (h .1))
 
   pub chain-inside : (at : ℕ) (cs : List Cell) → at ≤ length s → Chain s at cs → endOf at cs ≤ length s
   unfolding endOf

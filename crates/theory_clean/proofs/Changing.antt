@@ -2,20 +2,21 @@
 -- the one with the rows of its leaves changed. Assumes nothing.
 use mathlib.Core.Path.{_≡_, refl, sym, ap, _∙_, subst}
 use mathlib.Core.Bool.{Bool, true, false}
-use mathlib.Core.List.{List, [], _∷_, _++_, append-nil}
-use Prim.Native.Nat.{ℕ, zero, suc, _-_, _*_, _≤_, _<_}
+use mathlib.Core.List.{List, [], _∷_, _++_, map, append-nil}
+use Prim.Native.Nat.{ℕ, zero, suc, _*_, _≤_, _<_}
 use native.Mathlib.Omega.{arith}
 use native.Mathlib.Nat.{le-trans}
 use lib.ListN.{length}
 use Rattle.store.specs.Pick.{pick}
 use Rattle.store.specs.Le.{AreBytes}
+use Rattle.store.specs.Part.{part}
 use Rattle.page.specs.Page.{page, setPage}
 use Rattle.page.specs.Header.{nodeType, parentOf, nextLeaf}
+use Rattle.row.specs.declared.Cell.{Cell}
 use Rattle.leaf.specs.Cells.{cells, judgeLeaf}
-use Rattle.leaf.specs.Rows.{Row, AllFit, rows, rowsBytes, writeRows}
+use Rattle.leaf.specs.Rows.{Row, AllFit, rowOf, rows, rowBytes, rowsBytes, writeRows}
 use Rattle.leaf.specs.RowFacts.{Sound}
 use Rattle.leaf.specs.declared.Judged.{Judged}
-use Rattle.leaf_edit.specs.Edit.{without}
 use Rattle.tree_grow.specs.Steps.Safe.{There}
 use Rattle.theory_tree.specs.Pages.{Pages, leafPage, innerPage}
 use Rattle.theory_tree.specs.View.{said, view}
@@ -33,7 +34,7 @@ use Rattle.theory_tree.proofs.Walk.{locs, froms, locs-plug, froms-plug, headPag
 use Rattle.theory_tree.proofs.Search.{froms-head}
 use Rattle.theory_tree.proofs.Pigeon.{pigeon, locs-count, froms-count}
 use Rattle.theory_tree.proofs.Map.{mapS, onLeaf, Keeps, map-wf}
-use Rattle.theory_stores.proofs.Keeping.{bytes-field, bytes-pad, bytes-spliced, bytes-set-page}
+use Rattle.theory_stores.proofs.Keeping.{bytes-none, bytes-append, bytes-field, bytes-part, bytes-pad, bytes-set-page, bytes-cell}
 use Rattle.theory_stores.proofs.Viewing.{view-page}
 use Rattle.theory_stores.proofs.Rowing.{rows-long, said-rows}
 use Rattle.theory_walks.proofs.Walking.{AtLeaf, at-leaves, locs-later, before, upTo, gather}
@@ -138,9 +139,22 @@ module _ (used : ℕ) (s : List ℕ) (l : Loc) (h : PoolHas used s) (a : AtLeaf 
             };
       }
 
-pub bytes-without : (a b k e n : ℕ) (pg : List ℕ) → AreBytes pg → AreBytes (without a b k e n pg)
-unfolding without
-bytes-without a b k e n pg B = bytes-field 2 _ 6 (n - k) (bytes-pad 4096 _ (bytes-spliced a b e [] pg (λ i. omega arith) B))
+-- a row whose data is bytes, as those that are read are; what is written with such rows is bytes
+abbrev pub HasBytes : Row → Type 0
+HasBytes r = AreBytes (r .body)
+
+read-bytes : (pg : List ℕ) → AreBytes pg → (cs : List Cell) → All HasBytes (map (rowOf pg) cs)
+read-bytes pg B [] = tt
+read-bytes pg B (c ∷ cs) = (bytes-part (c .version .start) (c .version .len) pg B, read-bytes pg B cs)
+
+bytes-rows : (rs : List Row) → All HasBytes rs → AreBytes (rowsBytes rs)
+unfolding rowsBytes
+bytes-rows [] h = bytes-none
+bytes-rows (r ∷ rs) h = bytes-append (rowBytes r) (rowsBytes rs) (bytes-cell (r .key) (r .creator) (r .stamp) (r .pointer) (r .body) (h .0)) (bytes-rows rs (h .1))
+
+bytes-written : (rs : List Row) (pg : List ℕ) → All HasBytes rs → AreBytes pg → AreBytes (writeRows rs pg)
+unfolding writeRows
+bytes-written rs pg h B = bytes-field 2 _ 6 (length rs) (bytes-pad 4096 _ (bytes-append (part 0 12 pg) (rowsBytes rs) (bytes-part 0 12 pg B) (bytes-rows rs h)))
 
 -- x is the leaf pg with its rows changed by f
 pub record Changed (f : List Row → List Row) (pg x : List ℕ) : Type 0 where
@@ -158,15 +172,16 @@ module _ (f : List Row → List Row) (p e : ℕ) (pg : List ℕ) (is : LeafIs p 
         says = leaf-said pg (is .type) (rows-fill pg e (is .sound) .1) ∙ ap (leafPage (parentOf pg) (nextLeaf pg)) (sym q);
       }
 
-  pub rewritten : (x : List ℕ) → AreBytes x → AllFit (f (rows pg)) → length (rowsBytes (f (rows pg))) ≤ length (rowsBytes (rows pg))
-      → x ≡ writeRows (f (rows pg)) pg → Changed f pg x
-  rewritten x B fit short q =
+  pub rewritten : (All HasBytes (rows pg) → All HasBytes (f (rows pg))) → (AllFit (rows pg) → AllFit (f (rows pg))) → length (rowsBytes (f (rows pg))) ≤ length (rowsBytes (rows pg))
+      → Changed f pg (writeRows (f (rows pg)) pg)
+  rewritten keeps fit short =
       let within = split-at pg e (cells pg) [] (is .sound) (sym (append-nil (cells pg))) .within in
-      let few : length (rowsBytes (f (rows pg))) ≤ 4084 = omega (arith, short, within, rows-fill pg e (is .sound) .0) in
+      let fill = rows-fill pg e (is .sound) in
+      let few : length (rowsBytes (f (rows pg))) ≤ 4084 = omega (arith, within, fill .0) in
       record {
-        bytes = B;
-        long = ap length q ∙ rows-long (f (rows pg)) pg (is .sound .whole) few;
-        says = ap said q ∙ said-rows (f (rows pg)) pg (is .sound .whole) (is .type) fit few;
+        bytes = bytes-written (f (rows pg)) pg (keeps (read-bytes pg (is .sound .bytes) (cells pg))) (is .sound .bytes);
+        long = rows-long (f (rows pg)) pg (is .sound .whole) few;
+        says = said-rows (f (rows pg)) pg (is .sound .whole) (is .type) (fit (fill .2)) few;
       }
 
 -- ---- walks, and pages that stay

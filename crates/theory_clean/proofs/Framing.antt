@@ -1,63 +1,47 @@
 -- Remove and vacuum store to leaves of their tree, and so change no other page. Assumes nothing.
 use mathlib.Core.Path.{_≡_, refl, sym, ap, _∙_, subst}
-use mathlib.Core.Bool.{Bool, true, false, not}
-use mathlib.Core.List.{List, [], _∷_, _++_, map, map-append, append-nil}
+use mathlib.Core.Bool.{Bool, true, false}
+use mathlib.Core.List.{List, [], _∷_, _++_, map, map-append}
 use mathlib.Core.Logic.{_⊎_, inl, inr}
-use Prim.Native.Nat.{ℕ, zero, suc, _+_, _-_, _*_, _≤_, _<_}
+use Prim.Native.Nat.{ℕ, zero, suc, _*_, _≤_, _<_}
 use native.Mathlib.Omega.{arith}
 use lib.Dec.{leb, eqb}
 use lib.ListN.{length}
 use borrow.Author.Tests.{eqb-true, eqb-false}
 use Rattle.store.specs.Le.{AreBytes}
 use Rattle.store.specs.Pick.{pick}
-use Rattle.page.specs.Header.{cellCount, nextLeaf}
+use Rattle.page.specs.Header.{nextLeaf}
 use Rattle.page.specs.Page.{page, setPage}
 use Rattle.page.specs.Pool.{goodPool}
 use Rattle.page.specs.declared.pool.State.{State}
-use Rattle.row.specs.Write.{stampLen}
-use Rattle.row.specs.declared.Stamp.{Stamp}
 use Rattle.mvcc.specs.Lists.{mem}
 use Rattle.mvcc.specs.Snapshot.{lookup, goodStatuses, Statuses}
-use Rattle.mvcc.specs.Vacuum.{fate}
-use Rattle.mvcc.specs.declared.vacuum.Fate.{Fate}
-use Rattle.leaf.specs.Cells.{cells, foldCells}
-use Rattle.leaf.specs.Find.{running, runLeaf}
-use Rattle.leaf.specs.Rows.{Row, rows, rowsBytes, writeRows}
-use Rattle.leaf.specs.declared.find.Run.{Run}
-use Rattle.leaf.specs.declared.find.LeafRun.{LeafRun}
-use Rattle.leaf_edit.specs.Edit.{without}
-use Rattle.leaf_vacuum.specs.Vacuum.{clearedRow, onFate, keptRows, changesRows}
+use Rattle.leaf.specs.Rows.{rows}
 use Rattle.call_answers.specs.Answer.{Ended, Outcome}
-use Rattle.call_clean.specs.Remove.{countAlong, withoutRun, removedAlong, removeCall}
-use Rattle.call_clean.specs.Vacuum.{judgedAlong, sweptLeaf, vacuumedAlong, vacuumCall}
+use Rattle.call_clean.specs.Remove.{countAlong, removedAlong, removeCall}
+use Rattle.call_clean.specs.Vacuum.{judgedAlong, vacuumedAlong, vacuumCall}
 use Rattle.call_clean.specs.declared.remove.ChainCount.{ChainCount}
 use Rattle.call_clean.specs.declared.vacuum.ChainJudged.{ChainJudged}
 use Rattle.tree_grow.specs.Steps.Safe.{There}
 use Rattle.theory_tree.specs.View.{view}
 use Rattle.theory_tree.specs.Shape.{Shape, leaf, node, pair, pagesIn, first, All, NoneTwice, WellFormed}
-use Rattle.theory_tree.specs.Versions.{only, ofKey}
 use Rattle.page.proofs.PageLaws.{length-page, length-setPage, page-setPage-other}
 use Rattle.page.proofs.PoolLaws.{pool-is}
 use Rattle.leaf.proofs.Bytes.{bytes-page}
-use Rattle.leaf.proofs.Chain.{split-at}
 use Rattle.leaf.proofs.Choosing.{any-page}
-use Rattle.leaf.proofs.RowFacts.{rows-fill}
-use Rattle.leaf.proofs.Rowing.{length-rows, endOf}
-use Rattle.leaf_vacuum.proofs.VacuumFacts.{vacuum-sweeps}
 use Rattle.call_clean.proofs.Calls.{remove-pool, remove-ill, remove-done, remove-call, vacuum-pool, vacuum-statuses, vacuum-ill, vacuum-done, vacuum-call}
-use Rattle.call_clean.proofs.Storing.{remove-none, remove-last, remove-end, remove-on, vacuum-none, vacuum-end, vacuum-on}
+use Rattle.call_clean.proofs.Storing.{remove-none, vacuum-none}
 use Rattle.theory_tree.proofs.Contexts.{Ctx, top, inL, inR, under, nxtC, Loc}
 use Rattle.theory_tree.proofs.Lists.{all-app, all-left, all-right, all-map, Out, nd-left, nd-right, nd-apart, nd-join, mem-out}
 use Rattle.theory_tree.proofs.Search.{froms-head}
 use Rattle.theory_tree.proofs.Seek.{leafOf}
 use Rattle.theory_tree.proofs.Walk.{locs, froms, froms-plug, headPage, locs-head, Linked, froms-linked}
 use Rattle.theory_tree.proofs.Workers.{larger}
-use Rattle.theory_stores.proofs.Rowing.{rows-long}
 use Rattle.theory_walks.proofs.Descending.{descend-search, descend-first}
-use Rattle.theory_walks.proofs.Looking.{larger-is}
 use Rattle.theory_walks.proofs.Walking.{AtLeaf, at-leaves, froms-zero}
 use Rattle.theory_clean.proofs.Changing.{LeafIs}
-use Rattle.theory_clean.proofs.Running.{only-short, Splits, run-splits, run-out}
+use Rattle.theory_clean.proofs.Removing.{cleared, clears, clear-last, clear-end, clear-on}
+use Rattle.theory_clean.proofs.Vacuuming.{swept, sweeps, step, sweep-end, sweep-on}
 
 -- ---- the leaves that a search meets
 
@@ -203,60 +187,29 @@ module _ {A : Type 0} (used : ℕ) (walk : ℕ → A → ℕ → List ℕ → Li
         (all-map (AtLeaf s used) (Leaf used s) (leaf-of used s B room) ls (at-leaves s root used t w ls (froms-plug key t top))) (froms-linked 0 key t top)
         (met-each (λ q. x ≡ q → ⊥) key t top o)
 
--- a leaf written anew with rows that take no more room
-written-long : (p e : ℕ) (pg : List ℕ) → LeafIs p e pg → (rs : List Row) → length (rowsBytes rs) ≤ length (rowsBytes (rows pg)) → length (writeRows rs pg) ≡ 4096
-written-long p e pg is rs short =
-    let within = split-at pg e (cells pg) [] (is .sound) (sym (append-nil (cells pg))) .within in
-    rows-long rs pg (is .sound .whole) (omega (arith, short, within, rows-fill pg e (is .sound) .0))
-
 -- ---- remove
 
 module _ (key : ℕ) where
-  abbrev runOf : List ℕ → Run
-  runOf pg = foldCells (running key) (record { from = 12; to = 12; count = 0 }) (cells pg)
-
-  run-long : (p e : ℕ) (pg : List ℕ) → LeafIs p e pg → length (withoutRun (runOf pg) e pg) ≡ 4096
-  run-long p e pg is = rw (r .told) (by-count (eqb (length (r .out)) 0))
-    where
-      r : Splits key 12 (cells pg)
-      r = run-splits key p e pg (is .judged)
-
-      by-count : (b : Bool) → length (pick b pg (without (endOf 12 (r .before)) (endOf (endOf 12 (r .before)) (r .out)) (length (r .out)) e (cellCount pg) pg)) ≡ 4096
-      by-count true = is .sound .whole
-      by-count false =
-          ap (λ (l : List ℕ). length l) (run-out key pg r e (is .sound))
-          ∙ written-long p e pg is (only (λ (x : Row). not (ofKey key x)) (rows pg)) (only-short (λ (x : Row). not (ofKey key x)) (rows pg))
-
-  run-told : (p e : ℕ) (pg : List ℕ) → LeafIs p e pg → runLeaf pg p key ≡ LeafRun.Ok (runOf pg) e (larger key (rows pg))
-  unfolding runLeaf
-  run-told p e pg is = rw (is .judged, larger-is key pg)
-
   abbrev removal : (used : ℕ) → ℕ → Unit {0} → ℕ → List ℕ → List ℕ
   removal used m a p s = removedAlong s used p key m
 
   remove-turns : (used m : ℕ) (a : Unit {0}) (p e : ℕ) (s : List ℕ) → p < used → LeafIs p e (page p s) → Turn used (removal used) m a p s
   remove-turns used m a p e s low is =
       record {
-        made = y;
-        long = run-long p e (page p s) is;
+        made = cleared key p (page p s);
+        long = clears key p e (page p s) is .long;
         ends = by-end (larger key (rows (page p s))) refl (eqb (nextLeaf (page p s)) 0) refl;
       }
     where
-      y : List ℕ
-      y = withoutRun (runOf (page p s)) e (page p s)
-
-      told : runLeaf (page p s) p key ≡ LeafRun.Ok (runOf (page p s)) e (larger key (rows (page p s)))
-      told = run-told p e (page p s) is
+      after : List ℕ
+      after = setPage p (cleared key p (page p s)) s
 
       by-end : (b : Bool) → larger key (rows (page p s)) ≡ b → (z : Bool) → eqb (nextLeaf (page p s)) 0 ≡ z
-          → (removedAlong s used p key (suc m) ≡ setPage p y s)
-          ⊎ (Unit {0} × (nextLeaf (page p s) ≡ 0 → ⊥) × (removedAlong s used p key (suc m) ≡ removedAlong (setPage p y s) used (nextLeaf (page p s)) key m))
-      by-end true l z q = inl (sym (remove-last used key p s low refl told refl (suc m) (omega arith) l))
-      by-end false l true q = inl (sym (remove-end used key p s low refl told refl refl (suc m) (omega arith) l (eqb-true (nextLeaf (page p s)) 0 q)))
-      by-end false l false q =
-          let k : suc m - 1 ≡ m = omega arith in
-          let ne = eqb-false (nextLeaf (page p s)) 0 q in
-          inr (tt, ne, sym (rw k at (remove-on used key p s low refl told refl refl (suc m) (omega arith) l ne)))
+          → (removedAlong s used p key (suc m) ≡ after)
+          ⊎ (Unit {0} × (nextLeaf (page p s) ≡ 0 → ⊥) × (removedAlong s used p key (suc m) ≡ removedAlong after used (nextLeaf (page p s)) key m))
+      by-end true l z q = inl (clear-last key used m p e s low is l)
+      by-end false l true q = inl (clear-end key used m p e s low is l (eqb-true (nextLeaf (page p s)) 0 q))
+      by-end false l false q = let ne = eqb-false (nextLeaf (page p s)) 0 q in inr (tt, ne, clear-on key used m p e s low is (nextLeaf (page p s)) l refl ne)
 
 -- no page outside the tree changes, whatever the answer
 pub remove-elsewhere : (s : List ℕ) (st : State) (t : Shape) → AreBytes s → WellFormed (view s) (st .root) (st .used) t → (key : ℕ)
@@ -280,55 +233,24 @@ remove-elsewhere s st t B w key x low out = by-pool (goodPool s st) refl
 
 -- ---- vacuum
 
-cleared-short : (x : Stamp) → stampLen Stamp.Absent ≤ stampLen x
-cleared-short Stamp.Absent = omega arith
-cleared-short (Stamp.By t) = omega arith
-
 module _ (st : ℕ → ℕ) (bound : ℕ) where
-  kept-short : (rs : List Row) → length (rowsBytes (keptRows st bound rs)) ≤ length (rowsBytes rs)
-  unfolding keptRows
-  kept-short [] = omega arith
-  kept-short (r ∷ rs) = by-fate (fate st bound (r .creator) (r .stamp)) (kept-short rs)
-    where
-      left : List Row
-      left = keptRows st bound rs
-
-      by-fate : (f : Fate) → length (rowsBytes (keptRows st bound rs)) ≤ length (rowsBytes rs)
-          → length (rowsBytes (onFate (keptRows st bound rs) (clearedRow r ∷ keptRows st bound rs) (r ∷ keptRows st bound rs) f)) ≤ length (rowsBytes (r ∷ rs))
-      by-fate Fate.Dropped i = omega (arith, length-rows r rs)
-      by-fate Fate.Cleared i = omega (arith, length-rows r rs, length-rows (clearedRow r) left, cleared-short (r .stamp))
-      by-fate Fate.Same i = omega (arith, length-rows r rs, length-rows r left)
-
-  swept-long : (p e : ℕ) (pg : List ℕ) → LeafIs p e pg → length (sweptLeaf st bound e pg .page) ≡ 4096
-  swept-long p e pg is =
-      rw (vacuum-sweeps st bound e pg (is .sound .bytes) (is .sound .whole) (is .sound .judged)) (by-change (changesRows st bound (rows pg)))
-    where
-      by-change : (b : Bool) → length (pick b (writeRows (keptRows st bound (rows pg)) pg) pg) ≡ 4096
-      by-change true = written-long p e pg is (keptRows st bound (rows pg)) (kept-short (rows pg))
-      by-change false = is .sound .whole
-
   abbrev sweeping : (used : ℕ) → ℕ → ℕ → ℕ → List ℕ → List ℕ
   sweeping used m d p s = vacuumedAlong s used p st bound m d .pool
 
   vacuum-turns : (used m d p e : ℕ) (s : List ℕ) → p < used → LeafIs p e (page p s) → Turn used (sweeping used) m d p s
-  vacuum-turns used m d p e s low is = record { made = y; long = swept-long p e (page p s) is; ends = by-end (eqb (nextLeaf (page p s)) 0) refl }
+  vacuum-turns used m d p e s low is =
+      record { made = swept st bound p (page p s); long = sweeps st bound p e (page p s) is .long; ends = by-end (eqb (nextLeaf (page p s)) 0) refl }
     where
-      y : List ℕ
-      y = sweptLeaf st bound e (page p s) .page
-
-      n : ℕ
-      n = d + sweptLeaf st bound e (page p s) .told .dropped
+      after : List ℕ
+      after = setPage p (swept st bound p (page p s)) s
 
       by-end : (z : Bool) → eqb (nextLeaf (page p s)) 0 ≡ z
-          → (sweeping used (suc m) d p s ≡ setPage p y s)
-          ⊎ ((b : ℕ) × (nextLeaf (page p s) ≡ 0 → ⊥) × (sweeping used (suc m) d p s ≡ sweeping used m b (nextLeaf (page p s)) (setPage p y s)))
-      by-end true q =
-          inl (ap (λ (r : Ended ℕ). r .pool)
-          (sym (vacuum-end st bound used d p s low refl (is .judged) refl refl refl (suc m) (omega arith) (eqb-true (nextLeaf (page p s)) 0 q))))
+          → (sweeping used (suc m) d p s ≡ after)
+          ⊎ ((b : ℕ) × (nextLeaf (page p s) ≡ 0 → ⊥) × (sweeping used (suc m) d p s ≡ sweeping used m b (nextLeaf (page p s)) after))
+      by-end true q = inl (ap (λ (r : Ended ℕ). r .pool) (sweep-end st bound used m d p e s low is (eqb-true (nextLeaf (page p s)) 0 q)))
       by-end false q =
-          let k : suc m - 1 ≡ m = omega arith in
           let ne = eqb-false (nextLeaf (page p s)) 0 q in
-          inr (n, ne, ap (λ (r : Ended ℕ). r .pool) (sym (rw k at (vacuum-on st bound used d p s low refl (is .judged) refl refl refl (suc m) (omega arith) ne))))
+          inr (step st bound d p (page p s), ne, ap (λ (r : Ended ℕ). r .pool) (sweep-on st bound used m d p e s low is (nextLeaf (page p s)) refl ne))
 
 -- no page outside the tree changes, whatever the status list and the answer
 pub vacuum-elsewhere : (s : List ℕ) (st : State) (t : Shape) → AreBytes s → WellFormed (view s) (st .root) (st .used) t → (bound : ℕ) (ss : Statuses)

@@ -3,28 +3,23 @@
 use mathlib.Core.Path.{_≡_, refl, sym, ap, _∙_}
 use mathlib.Core.Bool.{Bool, true, false}
 use mathlib.Core.List.{List, [], _∷_, _++_, append-nil}
-use Prim.Native.Nat.{ℕ, zero, suc, _+_, _-_, _≤_, _<_}
+use Prim.Native.Nat.{ℕ, suc, _+_, _-_, _≤_, _<_}
 use native.Mathlib.Omega.{arith}
 use lib.ListN.{length}
 use Rattle.store.specs.Pick.{pick}
 use Rattle.store.specs.Le.{AreBytes}
-use Rattle.store.specs.Part.{part}
 use Rattle.page.specs.Page.{page, setPage}
-use Rattle.page.specs.Header.{cellCount, nextLeaf}
+use Rattle.page.specs.Header.{nextLeaf}
 use Rattle.page.specs.Pool.{goodPool}
 use Rattle.page.specs.declared.pool.State.{State}
-use Rattle.row.specs.Read.{cellAt}
 use Rattle.row.specs.Write.{stampLen}
-use Rattle.row.specs.declared.Cell.{Cell}
 use Rattle.row.specs.declared.Stamp.{Stamp}
-use Rattle.row.specs.declared.read.CellRead.{CellRead}
 use Rattle.mvcc.specs.Snapshot.{lookup, goodStatuses, Statuses}
 use Rattle.mvcc.specs.Vacuum.{fate}
 use Rattle.mvcc.specs.declared.vacuum.Fate.{Fate}
-use Rattle.leaf.specs.Cells.{onCell, judgeLeaf, onJudged}
+use Rattle.leaf.specs.Cells.{judgeLeaf, onJudged}
 use Rattle.leaf.specs.Rows.{Row, AllFit, rows, rowsBytes, writeRows}
-use Rattle.leaf_edit.specs.Edit.{without}
-use Rattle.leaf_vacuum.specs.Vacuum.{clearedRow, onFate, keptRows, droppedRows, changesRows, withoutStamp, sweep}
+use Rattle.leaf_vacuum.specs.Vacuum.{clearedRow, onFate, keptRows, droppedRows, changesRows}
 use Rattle.call_answers.specs.Answer.{done, ended, Ended}
 use Rattle.call_clean.specs.Vacuum.{lookLeaf, judgedAlong, sweptLeaf, vacuumedAlong, vacuumCall}
 use Rattle.call_clean.specs.declared.vacuum.ChainJudged.{ChainJudged}
@@ -32,7 +27,6 @@ use Rattle.theory_tree.specs.View.{view}
 use Rattle.theory_tree.specs.Shape.{Shape, leaf, node, pair, chain, first, All, KeysIn, Sorted, NotAfter, WellFormed}
 use Rattle.page.proofs.PoolLaws.{pool-is}
 use Rattle.leaf.proofs.Rowing.{length-rows}
-use Rattle.leaf.proofs.RowFacts.{rows-fill}
 use Rattle.leaf_vacuum.proofs.VacuumFacts.{vacuum-sweeps}
 use Rattle.call_clean.proofs.Storing.{vacuum-end, vacuum-on}
 use Rattle.call_clean.proofs.Calls.{vacuum-done, vacuum-call}
@@ -40,19 +34,9 @@ use Rattle.theory_tree.proofs.Contexts.{top}
 use Rattle.theory_tree.proofs.Map.{mapS, Keeps}
 use Rattle.theory_tree.proofs.Order.{btw-weak}
 use Rattle.theory_tree.proofs.Walk.{locs, locs-plug}
-use Rattle.theory_stores.proofs.Keeping.{bytes-part, bytes-pad, bytes-spliced, bytes-cell}
 use Rattle.theory_walks.proofs.Descending.{descend-first}
 use Rattle.theory_walks.proofs.Walking.{at-leaves, up-to-end, gather, gather-chain, walk-all}
-use Rattle.theory_clean.proofs.Changing.{LeafIs, PoolHas, Changed, unchanged, rewritten, changedAt, changed, Mapped, mapped, change-first, bytes-without}
-
--- ---- the bytes of a cell
-
-bytes-unstamped : (e : ℕ) (c : Cell) (pg : List ℕ) → AreBytes pg → AreBytes (withoutStamp e c pg)
-unfolding withoutStamp
-bytes-unstamped e c pg B =
-    bytes-pad 4096 _ (bytes-spliced (c .at) (c .next) e _ pg
-    (bytes-cell (c .key) (c .version .creator) Stamp.Absent (c .version .pointer) (part (c .version .start) (c .version .len) pg)
-    (bytes-part (c .version .start) (c .version .len) pg B)) B)
+use Rattle.theory_clean.proofs.Changing.{LeafIs, PoolHas, HasBytes, Changed, unchanged, rewritten, changedAt, changed, Mapped, mapped, change-first}
 
 -- ---- rows by their fate
 
@@ -137,20 +121,20 @@ module _ (x : ℕ → ℕ) (bound : ℕ) where
       by-fate Fate.Cleared i = (h .0, i)
       by-fate Fate.Same i = (h .0, i)
 
-  kept-after : (y : Row) (rs : List Row) → All (NotAfter y) rs → All (NotAfter y) (kept rs)
+  kept-each : (P : Row → Type 0) → ((r : Row) → P r → P (clearedRow r)) → (rs : List Row) → All P rs → All P (kept rs)
   unfolding keptRows
-  kept-after y [] h = tt
-  kept-after y (r ∷ rs) h = by-fate (fateOf r) (kept-after y rs (h .1))
+  kept-each P c [] h = tt
+  kept-each P c (r ∷ rs) h = by-fate (fateOf r) (kept-each P c rs (h .1))
     where
-      by-fate : (f : Fate) → All (NotAfter y) (kept rs) → All (NotAfter y) (onFate (kept rs) (clearedRow r ∷ kept rs) (r ∷ kept rs) f)
+      by-fate : (f : Fate) → All P (kept rs) → All P (onFate (kept rs) (clearedRow r ∷ kept rs) (r ∷ kept rs) f)
       by-fate Fate.Dropped i = i
-      by-fate Fate.Cleared i = (h .0, i)
+      by-fate Fate.Cleared i = (c r (h .0), i)
       by-fate Fate.Same i = (h .0, i)
 
   kept-sorted : (rs : List Row) → Sorted rs → Sorted (kept rs)
   unfolding keptRows
   kept-sorted [] h = tt
-  kept-sorted (r ∷ rs) h = by-fate (fateOf r) (kept-after r rs (h .0)) (kept-sorted rs (h .1))
+  kept-sorted (r ∷ rs) h = by-fate (fateOf r) (kept-each (NotAfter r) (λ x a. a) rs (h .0)) (kept-sorted rs (h .1))
     where
       by-fate : (f : Fate) → All (NotAfter r) (kept rs) → Sorted (kept rs) → Sorted (onFate (kept rs) (clearedRow r ∷ kept rs) (r ∷ kept rs) f)
       by-fate Fate.Dropped a i = i
@@ -167,43 +151,11 @@ module _ (x : ℕ → ℕ) (bound : ℕ) where
 
   -- ---- the stores
 
-  bytes-swept : (n at e k d : ℕ) (b : Bool) (pg : List ℕ) → AreBytes pg → AreBytes (sweep x bound n at e k d b pg .page)
-  unfolding sweep
-  bytes-swept zero at e k d b pg B = B
-  bytes-swept (suc n) at e k d b pg B = by-read (cellAt pg at) (bytes-swept n)
-    where
-      by-fate : (c : Cell) (f : Fate) → ((at₁ e₁ k₁ d₁ : ℕ) (b₁ : Bool) (pg₁ : List ℕ) → AreBytes pg₁ → AreBytes (sweep x bound n at₁ e₁ k₁ d₁ b₁ pg₁ .page))
-          → AreBytes
-          (onFate
-          (sweep x bound n at (e - (c .next - c .at)) (k - 1) (d + 1) true (without at (c .next) 1 e k pg))
-          (sweep x bound n (c .next - 8) (e - 8) k d true (withoutStamp e c pg))
-          (sweep x bound n (c .next) e k d b pg)
-          f
-          .page)
-      by-fate c Fate.Dropped ih = ih at (e - (c .next - c .at)) (k - 1) (d + 1) true (without at (c .next) 1 e k pg) (bytes-without at (c .next) 1 e k pg B)
-      by-fate c Fate.Cleared ih = ih (c .next - 8) (e - 8) k d true (withoutStamp e c pg) (bytes-unstamped e c pg B)
-      by-fate c Fate.Same ih = ih (c .next) e k d b pg B
-
-      by-read : (r : CellRead) → ((at₁ e₁ k₁ d₁ : ℕ) (b₁ : Bool) (pg₁ : List ℕ) → AreBytes pg₁ → AreBytes (sweep x bound n at₁ e₁ k₁ d₁ b₁ pg₁ .page))
-          → AreBytes
-          (onCell
-          (λ c.
-          onFate
-          (sweep x bound n at (e - (c .next - c .at)) (k - 1) (d + 1) true (without at (c .next) 1 e k pg))
-          (sweep x bound n (c .next - 8) (e - 8) k d true (withoutStamp e c pg))
-          (sweep x bound n (c .next) e k d b pg)
-          (fate x bound (c .version .creator) (c .version .stamp)))
-          (λ kind. record { page = pg; told = record { dropped = d; changed = b } })
-          r
-          .page)
-      by-read (CellRead.Got c) ih = by-fate c (fate x bound (c .version .creator) (c .version .stamp)) ih
-      by-read (CellRead.Bad kind) ih = B
-
   -- a leaf with what is kept
-  abbrev swept : ℕ → List ℕ → List ℕ
+  abbrev pub swept : ℕ → List ℕ → List ℕ
   swept p pg = onJudged (λ e. sweptLeaf x bound e pg .page) (λ f. pg) (judgeLeaf p pg)
 
-  sweeps : (p e : ℕ) (pg : List ℕ) → LeafIs p e pg → Changed kept pg (swept p pg)
+  pub sweeps : (p e : ℕ) (pg : List ℕ) → LeafIs p e pg → Changed kept pg (swept p pg)
   sweeps p e pg is = rw (is .judged) (by-change (changesRows x bound (rows pg)) refl)
     where
       page-is : sweptLeaf x bound e pg .page ≡ pick (changesRows x bound (rows pg)) (writeRows (kept (rows pg)) pg) pg
@@ -211,11 +163,10 @@ module _ (x : ℕ → ℕ) (bound : ℕ) where
 
       by-change : (b : Bool) → changesRows x bound (rows pg) ≡ b → Changed kept pg (sweptLeaf x bound e pg .page)
       by-change true q =
-          rewritten kept p e pg is (sweptLeaf x bound e pg .page) (bytes-swept (cellCount pg) 12 e (cellCount pg) 0 false pg (is .sound .bytes))
-          (kept-fits (rows pg) (rows-fill pg e (is .sound) .2)) (kept-short (rows pg)) (page-is ∙ rw q)
+          rw (page-is, q) (rewritten kept p e pg is (kept-each HasBytes (λ r h. h) (rows pg)) (kept-fits (rows pg)) (kept-short (rows pg)))
       by-change false q = rw (page-is, q) (unchanged kept p e pg is (kept-same (rows pg) q))
 
-  abbrev step : ℕ → ℕ → List ℕ → ℕ
+  abbrev pub step : ℕ → ℕ → List ℕ → ℕ
   step n p pg = n + droppedRows x bound (rows pg)
 
   module _ (used m d p e : ℕ) (s : List ℕ) (low : p < used) (is : LeafIs p e (page p s)) where
@@ -225,11 +176,11 @@ module _ (x : ℕ → ℕ) (bound : ℕ) where
     swept-told : sweptLeaf x bound e (page p s) .told .dropped ≡ droppedRows x bound (rows (page p s))
     swept-told = rw (vacuum-sweeps x bound e (page p s) (is .sound .bytes) (is .sound .whole) (is .sound .judged))
 
-    sweep-end : nextLeaf (page p s) ≡ 0 → vacuumedAlong s used p x bound (suc m) d ≡ ended (step d p (page p s)) (changedAt kept swept sweeps p s)
+    pub sweep-end : nextLeaf (page p s) ≡ 0 → vacuumedAlong s used p x bound (suc m) d ≡ ended (step d p (page p s)) (changedAt kept swept sweeps p s)
     sweep-end z =
         sym (rw swept-told at (vacuum-end x bound used d p s low refl (is .judged) {w = sweptLeaf x bound e (page p s) .told} refl swept-at refl (suc m) (omega arith) z))
 
-    sweep-on : (n : ℕ) → nextLeaf (page p s) ≡ n → (n ≡ 0 → ⊥)
+    pub sweep-on : (n : ℕ) → nextLeaf (page p s) ≡ n → (n ≡ 0 → ⊥)
         → vacuumedAlong s used p x bound (suc m) d ≡ vacuumedAlong (changedAt kept swept sweeps p s) used n x bound m (step d p (page p s))
     sweep-on n q z =
         let k : suc m - 1 ≡ m = omega arith in
