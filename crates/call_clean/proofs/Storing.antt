@@ -7,21 +7,27 @@ use Prim.Native.Nat.{ℕ, zero, suc, _+_, _-_, _*_, _≤_, _<_}
 use native.Mathlib.Omega.{arith}
 use borrow.Author.Tests.{lt-ltb, le-ltb, eq-eqb, ne-eqb}
 use borrow.Rule.Slice.PartMut.{putMid}
+use lib.ListN.{length}
+use Rattle.store.specs.Le.{AreBytes}
 use Rattle.page.specs.Page.{page, setPage}
 use Rattle.page.specs.Header.{cellCount, nextLeaf}
 use Rattle.row.specs.declared.Fault.{Fault}
-use Rattle.leaf.specs.Cells.{judgeLeaf}
-use Rattle.leaf.specs.Find.{runLeaf}
+use Rattle.leaf.specs.Cells.{cells, judgeLeaf, hasLarger}
+use Rattle.leaf.specs.RowFacts.{Sound}
 use Rattle.leaf.specs.declared.Judged.{Judged}
 use Rattle.leaf.specs.declared.find.Run.{Run}
-use Rattle.leaf.specs.declared.find.LeafRun.{LeafRun}
 use Rattle.leaf_edit.specs.Edit.{without}
 use Rattle.leaf_vacuum.specs.Vacuum.{vacuumedLeaf}
 use Rattle.leaf_vacuum.specs.declared.Vacuumed.{Vacuumed}
 use Rattle.call_answers.specs.Answer.{ended}
-use Rattle.call_clean.specs.Remove.{withoutRun, removedAlong}
+use Rattle.call_clean.specs.Steps.Remove.{withoutRun}
+use Rattle.call_clean.specs.Remove.{removedLeaf, removedAlong}
 use Rattle.call_clean.specs.Vacuum.{vacuumedAlong}
-use Rattle.page.proofs.PageLaws.{back-page}
+use Rattle.page.proofs.PageLaws.{length-page, back-page}
+use Rattle.leaf.proofs.Bytes.{bytes-page}
+use Rattle.leaf.proofs.Choosing.{any-page}
+use Rattle.leaf.proofs.Running.{RunIs, run-count}
+use Rattle.leaf_edit.proofs.EditFacts.{run-out}
 
 -- what the pool is when the lent page p has come back as x
 pub page-made : (p : ℕ) (s : List ℕ) {y x : List ℕ} → y ≡ x → putMid (p * 4096) (p * 4096 + 4096 - p * 4096) s y ≡ setPage p x s
@@ -36,6 +42,18 @@ module _ (run : Run) (e : ℕ) (pg : List ℕ) where
   pub run-some : {n : ℕ} {t : List ℕ} → (run .count ≡ 0 → ⊥) → n ≡ cellCount pg → t ≡ without (run .from) (run .to) (run .count) e n pg → t ≡ withoutRun run e pg
   run-some z q u = u ∙ rw (ne-eqb (run .count) 0 z, q)
 
+-- it is the leaf with the rows of the other keys
+run-removed : (p key : ℕ) (pg : List ℕ) → AreBytes pg → length pg ≡ 4096 → {run : Run} {e : ℕ} {larger : Bool} → RunIs pg p key run e larger → withoutRun run e pg ≡ removedLeaf key pg
+unfolding removedLeaf
+run-removed p key pg B len {run} {e} {larger} r =
+    let sound : Sound pg e = record { bytes = B; whole = len; judged = any-page p 0 e pg (r .judged) } in
+    rw (run-out pg p key e run larger sound r, run-count r)
+
+-- what the pool is when its page p has come back without them
+pub run-made : (p key : ℕ) (s : List ℕ) → AreBytes s → p * 4096 + 4096 ≤ length s → {run : Run} {e : ℕ} {larger : Bool} → RunIs (page p s) p key run e larger
+    → {y : List ℕ} → y ≡ withoutRun run e (page p s) → putMid (p * 4096) (p * 4096 + 4096 - p * 4096) s y ≡ setPage p (removedLeaf key (page p s)) s
+run-made p key s B h r q = page-made p s (q ∙ run-removed p key (page p s) (bytes-page p s B) (length-page p s h) r)
+
 -- ---- remove
 
 module _ (used key p : ℕ) (s : List ℕ) where
@@ -49,30 +67,31 @@ module _ (used key p : ℕ) (s : List ℕ) where
   remove-unused zero h = refl
   remove-unused (suc m) h = rw (le-ltb p used h)
 
-  module _ (h : p < used) {r : LeafRun} (said : r ≡ runLeaf (page p s) p key) where
-    pub remove-bad : (m : ℕ) {f : Fault} → r ≡ LeafRun.Bad f → s ≡ removedAlong s used p key m
+  module _ (h : p < used) where
+    pub remove-bad : (m : ℕ) {f : Fault} → judgeLeaf p (page p s) ≡ Judged.Bad f → s ≡ removedAlong s used p key m
     unfolding removedAlong
     remove-bad zero e = refl
-    remove-bad (suc m) e = rw (lt-ltb p used h, sym said ∙ e)
+    remove-bad (suc m) e = rw (lt-ltb p used h, e)
 
-    module _ {run : Run} {e : ℕ} {larger : Bool} (good : r ≡ LeafRun.Ok run e larger) {t : List ℕ} (made : t ≡ setPage p (withoutRun run e (page p s)) s) where
+    module _ {e : ℕ} (judged : judgeLeaf p (page p s) ≡ Judged.Ok e) {t : List ℕ} (made : t ≡ setPage p (removedLeaf key (page p s)) s)
+        {larger : Bool} (last : hasLarger key (cells (page p s)) ≡ larger) where
       pub remove-last : (m : ℕ) → 0 < m → larger ≡ true → t ≡ removedAlong s used p key m
       unfolding removedAlong
       remove-last zero z l = absurd (omega arith)
-      remove-last (suc m) z l = made ∙ rw (lt-ltb p used h, sym said ∙ good, l)
+      remove-last (suc m) z l = made ∙ rw (lt-ltb p used h, judged, last ∙ l)
 
       module _ {n : ℕ} (next : n ≡ nextLeaf (page p s)) where
         pub remove-end : (m : ℕ) → 0 < m → larger ≡ false → n ≡ 0 → t ≡ removedAlong s used p key m
         unfolding removedAlong
         remove-end zero z l q = absurd (omega arith)
-        remove-end (suc m) z l q = made ∙ rw (lt-ltb p used h, sym said ∙ good, l, eq-eqb (nextLeaf (page p s)) 0 (sym next ∙ q))
+        remove-end (suc m) z l q = made ∙ rw (lt-ltb p used h, judged, last ∙ l, eq-eqb (nextLeaf (page p s)) 0 (sym next ∙ q))
 
         pub remove-on : (m : ℕ) → 0 < m → larger ≡ false → (n ≡ 0 → ⊥) → removedAlong t used n key (m - 1) ≡ removedAlong s used p key m
         unfolding removedAlong
         remove-on zero z l q = absurd (omega arith)
         remove-on (suc m) z l q =
             let k : suc m - 1 ≡ m = omega arith in
-            rw (lt-ltb p used h, sym said ∙ good, l, ne-eqb (nextLeaf (page p s)) 0 (λ u. q (next ∙ u)), k, next, made)
+            rw (lt-ltb p used h, judged, last ∙ l, ne-eqb (nextLeaf (page p s)) 0 (λ u. q (next ∙ u)), k, next, made)
 
 -- ---- vacuum
 

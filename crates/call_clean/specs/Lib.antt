@@ -2,3 +2,4 @@
 pub mod Answer
 pub mod Remove
 pub mod Vacuum
+pub mod Steps

@@ -1,7 +1,6 @@
 -- Vacuum (document 01, sections 5 and 6): every leaf of the chain, from the leftmost on, "drops a version whose creator is
 -- aborted, or whose deleter is below the given bound and committed in the list; of those kept, an aborted deleter's stamp is
 -- cleared". The whole chain is judged before any store.
-use mathlib.Core.Bool.{false}
 use mathlib.Core.List.{List}
 use Prim.Native.Nat.{ℕ, zero, suc, _+_}
 use lib.Dec.{ltb, eqb}

@@ -36,7 +36,7 @@ use Rattle.list_records.specs.Records.{records}
 use Rattle.list_records.specs.Listed.{fitted}
 use Rattle.call_answers.specs.Answer.{written, refused, done}
 use Rattle.list_records.specs.declared.Listing.{Listing}
-use Rattle.list_versions.specs.Gather.{rowsOfKey, lookRows, rowsAlong}
+use Rattle.list_versions.specs.Gather.{lookRows, rowsAlong}
 use Rattle.list_versions.specs.Listed.{routeOf, listTree}
 use Rattle.list_versions.specs.declared.Which.{Which}
 use Rattle.list_visible.specs.Visible.{lookAll, chainRows, visibleRows, enteredRow, newestEach, scanRows, scanTree}
@@ -128,7 +128,7 @@ module _ {used root : ℕ} {s : List ℕ} (t : Alone used root s) where
         rw (comes-to (Route.Search key), stays (lookTest key sn st claiming seen) false here)
 
   list-none : (w : Which) (out : List ℕ) → listTree s used root w out ≡ written (Listing.Done 0) out
-  unfolding listTree rowsAlong foldCells hasLarger rowsOfKey
+  unfolding listTree rowsAlong foldCells hasLarger
   list-none w out = rw (comes-to (routeOf w), stays (lookRows w) [] (here w)) (none-fitted out)
     where
       here : (w : Which) → lookRows w [] root (page root s) ≡ go []

@@ -1,7 +1,7 @@
 -- Conflict (document 01, sections 4 and 6): whether some version of the key conflicts with a seen creator number. "Statuses
 -- play no part", so it takes no status list.
 use mathlib.Core.Bool.{Bool, false}
-use mathlib.Core.List.{List, []}
+use mathlib.Core.List.{List}
 use Prim.Native.Nat.{ℕ}
 use Rattle.page.specs.Pool.{goodPool}
 use Rattle.page.specs.declared.pool.State.{State}

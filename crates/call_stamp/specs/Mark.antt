@@ -1,10 +1,8 @@
 -- Stamp, plain stamp and plain delete (document 01, sections 4 to 6): the largest visible creator of the key, the last on a
 -- tie, gets the deleter's stamp. `..Run` also says the fault behind a BadTree, and the call hides it.
-use mathlib.Core.Path.{_≡_}
-use mathlib.Core.Bool.{Bool, true, false}
+use mathlib.Core.Bool.{Bool, false}
 use mathlib.Core.List.{List}
-use Prim.Native.Nat.{ℕ, _/_}
-use lib.ListN.{length}
+use Prim.Native.Nat.{ℕ}
 use Rattle.store.specs.Pick.{pick}
 use Rattle.page.specs.Page.{page}
 use Rattle.page.specs.declared.pool.State.{State}

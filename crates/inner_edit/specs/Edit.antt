@@ -2,8 +2,7 @@
 -- child entered, the page with 511 keys divided, a new top, and parent links. "Writing an internal page zeroes bytes 12
 -- to 4095 .. and sets the count; bytes 8 to 11 stay" (section 2).
 use mathlib.Core.List.{List, _++_}
-use Prim.Native.Nat.{ℕ, zero, suc, _+_, _*_, _≤_}
-use lib.ListN.{length}
+use Prim.Native.Nat.{ℕ, zero, suc, _+_, _*_}
 use Rattle.store.specs.Le.{bytesLE, putAt}
 use Rattle.store.specs.Part.{part, pad, spliced}
 use Rattle.page.specs.Page.{page, setPage}

@@ -46,7 +46,7 @@ module _ (s : List ℕ) where
   chain-back at [] h = refl
   chain-back at (c ∷ cs) h = rw (h .0, chain-back (c .next) cs (h .1))
 
-  chain-left : (at : ℕ) (xs ys : List Cell) → Chain s at (xs ++ ys) → Chain s at xs
+  pub chain-left : (at : ℕ) (xs ys : List Cell) → Chain s at (xs ++ ys) → Chain s at xs
   chain-left at [] ys h = tt
   chain-left at (x ∷ xs) ys h = (h .0, chain-left (x .next) xs ys (h .1))
 
@@ -55,12 +55,19 @@ module _ (s : List ℕ) where
   chain-right at [] ys h = h
   chain-right at (x ∷ xs) ys h = chain-right (x .next) xs ys (h .1)
 
-  chain-grows : (at : ℕ) (cs : List Cell) → Chain s at cs → at ≤ endOf at cs
+  pub chain-grows : (at : ℕ) (cs : List Cell) → Chain s at cs → at ≤ endOf at cs
   unfolding endOf
   chain-grows at [] h = omega arith
   chain-grows at (c ∷ cs) h =
       let p = cell-placed s at c (h .0) in
       omega (arith, chain-grows (c .next) cs (h .1))
+
+  pub chain-few : (at : ℕ) (cs : List Cell) → Chain s at cs → at + 19 * length cs ≤ endOf at cs
+  unfolding endOf
+  chain-few at [] h = omega arith
+  chain-few at (c ∷ cs) h =
+      let p = cell-placed s at c (h .0) in
+      omega (arith, chain-few (c .next) cs (h .1))
 
   pub chain-inside : (at : ℕ) (cs : List Cell) → at ≤ length s → Chain s at cs → endOf at cs ≤ length s
   unfolding endOf
@@ -153,9 +160,3 @@ split-at pg e xs ys sound h =
       front = ap (λ (k : ℕ). part 0 k pg) i ∙ (part-add 0 12 (endOf 12 xs - 12) pg ∙ rw (z, chain-bytes pg (sound .bytes) 12 xs l));
       back = rw ends at (chain-bytes pg (sound .bytes) (endOf 12 xs) ys r);
     }
-
--- at least 19 bytes a cell
-pub cells-room : (pg : List ℕ) (at : ℕ) (cs : List Cell) → Chain pg at cs → at + 19 * length cs ≤ endOf at cs
-unfolding endOf
-cells-room pg at [] h = omega arith
-cells-room pg at (c ∷ cs) h = let p = cell-placed pg at c (h .0) in omega (arith, cells-room pg (c .next) cs (h .1), p .past-head, p .whole)

@@ -9,3 +9,5 @@ pub mod Chain
 pub mod Placed
 pub mod RowFacts
 pub mod Choosing
+pub mod Filtering
+pub mod Running

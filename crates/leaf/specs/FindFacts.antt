@@ -1,15 +1,18 @@
 -- What a lookup chooses in a leaf (document 01, section 4: "the largest visible creator; on a tie the last in chain order",
 -- P9's first half), and that a judgement's yes does not depend on the page's number.
 use mathlib.Core.Path.{_≡_}
-use mathlib.Core.Bool.{true}
+use mathlib.Core.Bool.{Bool, true}
 use mathlib.Core.List.{List, [], _∷_, _++_}
 use Prim.Native.Nat.{ℕ, _≤_, _<_}
 use Rattle.mvcc.specs.Rules.{visible}
 use Rattle.row.specs.declared.Cell.{Cell}
 use Rattle.leaf.specs.Cells.{foldCells, judgeLeaf}
-use Rattle.leaf.specs.Find.{newest}
+use Rattle.leaf.specs.Find.{newest, runLeaf}
 use Rattle.leaf.specs.declared.Judged.{Judged}
+use Rattle.leaf.specs.Rows.{rowsOf, rows, only, ofKey}
 use Rattle.leaf.specs.declared.find.Best.{Best}
+use Rattle.leaf.specs.declared.find.Run.{Run}
+use Rattle.leaf.specs.declared.find.LeafRun.{LeafRun}
 use Rattle.mvcc.specs.Snapshot.{Snapshot}
 
 -- a version of the key that is seen
@@ -44,3 +47,9 @@ LookupChooses =
 -- a judgement's yes is the same for any page number
 abbrev pub AnyPage : Type 0
 AnyPage = (p q e : ℕ) (pg : List ℕ) → judgeLeaf p pg ≡ Judged.Ok e → judgeLeaf q pg ≡ Judged.Ok e
+
+-- the cells of a run are exactly the key's, in their order
+abbrev pub RunIsKeys : Type 0
+RunIsKeys =
+    (pg : List ℕ) (p key e : ℕ) (run : Run) (larger : Bool) → runLeaf pg p key ≡ LeafRun.Ok run e larger
+    → rowsOf (run .count) (run .from) pg ≡ only (ofKey key) (rows pg)

@@ -2,10 +2,12 @@
 -- writing a leaf does (document 01, section 2: "zeroes bytes 12 to 4095, stores the cells one after another and sets
 -- the count; bytes 8 to 11 stay").
 use mathlib.Core.List.{List, [], _∷_, _++_, map}
-use mathlib.Core.Bool.{Bool, true, _&&_}
+use mathlib.Core.Bool.{Bool}
 use Prim.Native.Nat.{ℕ, _≤_, _<_}
 use lib.ListN.{length}
+use lib.Dec.{eqb}
 use Rattle.store.specs.Part.{part, pad}
+use Rattle.store.specs.Pick.{pick}
 use Rattle.page.specs.Header.{cellCount, withCount, headerSize}
 use Rattle.row.specs.Write.{cellBytes, cellSize, maxData}
 use Rattle.row.specs.Exact.{StampFits, PointerFits}
@@ -64,3 +66,11 @@ rowsBytes (r ∷ rs) = rowBytes r ++ rowsBytes rs
 -- the leaf page with these rows
 unfoldable pub writeRows : List Row → List ℕ → List ℕ
 writeRows rs pg = withCount (length rs) (pad 4096 (part 0 headerSize pg ++ rowsBytes rs))
+
+-- the rows that a test keeps, in their order; and whether a row is of the key k
+abbrev pub only : (Row → Bool) → List Row → List Row
+only f [] = []
+only f (x ∷ xs) = pick (f x) (x ∷ only f xs) (only f xs)
+
+abbrev pub ofKey : ℕ → Row → Bool
+ofKey k x = eqb (x .key) k

@@ -1,5 +1,6 @@
 -- The edits of a leaf said over rows: proofs of the statements of specs/EditFacts. Assumes nothing.
 use mathlib.Core.Path.{_≡_, refl, sym, ap, _∙_, subst}
+use mathlib.Core.Bool.{Bool, not}
 use mathlib.Core.List.{List, [], _∷_, _++_, map, map-append, append-assoc, append-nil}
 use Prim.Native.Nat.{ℕ, zero, suc, _+_, _-_}
 use native.Mathlib.Omega.{arith}
@@ -8,9 +9,10 @@ use Rattle.store.specs.Part.{part, pad, spliced}
 use Rattle.page.specs.Header.{cellCount}
 use Rattle.row.specs.declared.Cell.{Cell}
 use Rattle.leaf.specs.Cells.{cells}
-use Rattle.leaf.specs.Rows.{Row, rowOf, rows, rowBytes, rowsBytes, writeRows}
+use Rattle.leaf.specs.Rows.{Row, rowOf, rows, rowBytes, rowsBytes, writeRows, only, ofKey}
 use Rattle.leaf.specs.Place.{placeOf}
 use Rattle.leaf.specs.RowFacts.{Sound}
+use Rattle.leaf.specs.declared.find.Run.{Run}
 use Rattle.leaf_edit.specs.Edit.{withCell, withStamp, without}
 use Rattle.leaf_edit.specs.EditFacts.{InsertInserts, StampStamps, OutIsOut, insertRow, stampRow, bytesOf}
 use Rattle.store.proofs.PartLaws.{length-part}
@@ -18,6 +20,7 @@ use Rattle.row.proofs.Exact.{cell-placed}
 use Rattle.leaf.proofs.Rowing.{endOf, rows-append}
 use Rattle.leaf.proofs.Chain.{Chain, chain-cells, chain-right, end-append, judged-leaf, Split, split-at}
 use Rattle.leaf.proofs.Placed.{place-split}
+use Rattle.leaf.proofs.Running.{RunIs}
 use Rattle.leaf.proofs.RowFacts.{head-length, count-kept, rows-fill}
 use Rattle.leaf_edit.proofs.Editing.{spliced-is}
 
@@ -97,18 +100,33 @@ bytes-end : (pg : List ℕ) (e : ℕ) (xs ys : List Cell) → length pg ≡ 4096
 bytes-end pg e xs ys len s =
     omega (arith, simp length-append at (ap length (s .front)), head-length pg [] len, length-part 0 (endOf 12 xs) pg (omega (arith, s .high, s .within)))
 
-pub out-is-out : OutIsOut
+-- cells taken out, by where they start and end
+out-there : (pg : List ℕ) (e : ℕ) (before out after : List Cell) → Sound pg e → cells pg ≡ before ++ (out ++ after)
+    → without (endOf 12 before) (endOf 12 (before ++ out)) (length out) e (cellCount pg) pg ≡ writeRows (map (rowOf pg) before ++ map (rowOf pg) after) pg
 unfolding without writeRows
-out-is-out pg e before out after sound h =
+out-there pg e before out after sound h =
     let f = rowOf pg in
     let there = judged-leaf 0 pg e (sound .judged) in
     let s = split-at pg e before (out ++ after) sound h in
     let t = split-at pg e (before ++ out) after sound (h ∙ sym (append-assoc before out after)) in
     let front = map f before in
     let back = map f after in
+    let n : cellCount pg - length out ≡ length (front ++ back)
+    = omega (arith, length-append front back, length-map before f, length-map after f, simp length-append at (ap length h), there .count) in
+    rw (n, spliced-rows (endOf 12 before) (endOf 12 (before ++ out)) e pg [] front [] back (s .front) no-rows (t .back))
+
+pub out-is-out : OutIsOut
+out-is-out pg e before out after sound h =
+    let s = split-at pg e before (out ++ after) sound h in
+    let t = split-at pg e (before ++ out) after sound (h ∙ sym (append-assoc before out after)) in
     let a : 12 + bytesOf pg before ≡ endOf 12 before = bytes-end pg e before (out ++ after) (sound .whole) s in
     let b : 12 + bytesOf pg before + bytesOf pg out ≡ endOf 12 (before ++ out)
     = omega (arith, simp (map-append, rows-append, length-append) at (bytes-end pg e (before ++ out) after (sound .whole) t)) in
-    let n : cellCount pg - length out ≡ length (front ++ back)
-    = omega (arith, length-append front back, length-map before f, length-map after f, simp length-append at (ap length h), there .count) in
-    rw (b, a, n, spliced-rows (endOf 12 before) (endOf 12 (before ++ out)) e pg [] front [] back (s .front) no-rows (t .back))
+    rw (b, a) (out-there pg e before out after sound h)
+
+-- the run of a key taken out leaves the rows of the others
+pub run-out : (pg : List ℕ) (p key e : ℕ) (run : Run) (larger : Bool) → Sound pg e → RunIs pg p key run e larger
+    → without (run .from) (run .to) (run .count) e (cellCount pg) pg ≡ writeRows (only (λ r. not (ofKey key r)) (rows pg)) pg
+run-out pg p key e run larger sound r =
+    let to : run .to ≡ endOf 12 (r .before ++ r .out) = sym (r .to) ∙ (ap (λ (a : ℕ). endOf a (r .out)) (sym (r .from)) ∙ sym (end-append 12 (r .before) (r .out))) in
+    rw (to, ← r .from, ← r .count, r .others) (out-there pg e (r .before) (r .out) (r .after) sound (r .is))

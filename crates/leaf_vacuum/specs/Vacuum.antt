@@ -3,7 +3,7 @@
 -- changed and counts those dropped."
 use mathlib.Core.Bool.{Bool, true, false}
 use mathlib.Core.List.{List, [], _∷_}
-use Prim.Native.Nat.{ℕ, zero, suc, _+_, _-_}
+use Prim.Native.Nat.{ℕ, _+_}
 use Rattle.row.specs.declared.Stamp.{Stamp}
 use Rattle.mvcc.specs.Vacuum.{fate}
 use Rattle.mvcc.specs.declared.vacuum.Fate.{Fate}

@@ -69,11 +69,6 @@ module _ (s : List ℕ) (B : AreBytes s) where
       let l : length (rowBytes (rowOf s c)) ≡ c .next - at = sym (ap length (r .bytes)) ∙ length-part at (c .next - at) s (omega (arith, r .low, r .inside)) in
       omega (arith, chain-records (c .next) cs (h .1), length-append (recordBytes 1 (rowBytes (rowOf s c))) (records (map (rowOf s) cs)), length-record 1 (rowBytes (rowOf s c)), r .low)
 
-  pub chain-few : (at : ℕ) (cs : List Cell) → Chain s at cs → at + 19 * length cs ≤ endOf at cs
-  unfolding endOf
-  chain-few at [] h = omega arith
-  chain-few at (c ∷ cs) h = omega (arith, cell-record s at c B (h .0) .low, chain-few (c .next) cs (h .1))
-
 -- ---- n cells that are all there, one by one
 
 pub record FirstCell (s : List ℕ) (n at next : ℕ) : Type 0 where

@@ -1,26 +1,18 @@
 -- The versions that a walk along the chain meets, in chain order (document 01, section 4: "Versions and all-versions list
 -- chain order"): those of a key, until a leaf holds a larger one, or all to the chain's end.
-use mathlib.Core.Path.{_≡_}
-use mathlib.Core.Bool.{Bool, true, false}
-use mathlib.Core.List.{List, [], _∷_, _++_}
+use mathlib.Core.Bool.{Bool, false}
+use mathlib.Core.List.{List, [], _++_}
 use Prim.Native.Nat.{ℕ}
-use lib.Dec.{eqb}
-use lib.ListN.{length}
 use Rattle.store.specs.Pick.{pick}
 use Rattle.row.specs.declared.Cell.{Cell}
 use Rattle.leaf.specs.Cells.{cells, judgeLeaf, onJudged, hasLarger}
-use Rattle.leaf.specs.Rows.{Row, rows}
+use Rattle.leaf.specs.Rows.{Row, rows, only, ofKey}
 use Rattle.tree.specs.Chain.{Seen, stop, go, broken, Told, along}
 use Rattle.list_versions.specs.declared.Which.{Which}
 
--- the rows of a key, in their order
-unfoldable pub rowsOfKey : ℕ → List Row → List Row
-rowsOfKey key [] = []
-rowsOfKey key (r ∷ rs) = pick (eqb (r .key) key) (r ∷ rowsOfKey key rs) (rowsOfKey key rs)
-
 abbrev pub wanted : Which → List Row → List Row
 wanted Which.All rs = rs
-wanted (Which.Key key) rs = rowsOfKey key rs
+wanted (Which.Key key) rs = only (ofKey key) rs
 
 -- a larger key ends the search for one
 abbrev pub ends : Which → List Cell → Bool

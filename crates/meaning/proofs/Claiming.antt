@@ -7,7 +7,6 @@ use Prim.Native.Nat.{ℕ}
 use native.Mathlib.Omega.{arith}
 use Rattle.page.specs.declared.pool.State.{State}
 use Rattle.mvcc.specs.Lists.{mem}
-use Rattle.mvcc.specs.declared.Current.{Current}
 use Rattle.leaf.specs.Rows.{Row}
 use Rattle.tree_grow.specs.Grow.{Grown}
 use Rattle.call_answers.specs.Answer.{refused, ended, Ended, Outcome, nothing, Value, done}

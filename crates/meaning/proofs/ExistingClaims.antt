@@ -14,9 +14,8 @@ use Rattle.page.specs.declared.pool.State.{State}
 use Rattle.row.specs.declared.Cell.{Cell}
 use Rattle.row.specs.declared.Stamp.{Stamp}
 use Rattle.mvcc.specs.Lists.{stateAt, risingFrom, rising, areStates, mem, goodActive}
-use Rattle.mvcc.specs.Snapshot.{lookup, goodStatuses, snapshot, noStatuses}
+use Rattle.mvcc.specs.Snapshot.{lookup, goodStatuses, noStatuses}
 use Rattle.mvcc.specs.Rules.{isCurrent, ofDeleter, finishedWith, finishedBefore, visible, changedAfter, conflicting, claimConflicting}
-use Rattle.mvcc.specs.declared.Current.{Current}
 use Rattle.leaf.specs.Cells.{cells, foldCells}
 use Rattle.leaf.specs.Find.{newest}
 use Rattle.leaf.specs.Rows.{Row, rowOf, rows, rowsBytes}

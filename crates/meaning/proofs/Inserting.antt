@@ -26,7 +26,7 @@ use Rattle.leaf.proofs.Bytes.{bytes-page}
 use Rattle.tree_insert.proofs.Spotting.{SpotIs, spot-is}
 use Rattle.theory_tree.proofs.Contexts.{top-key, Ctx, plug, preC, postC, loC, hiC, place}
 use Rattle.theory_tree.proofs.Entries.{path}
-use Rattle.theory_tree.proofs.Order.{filt-app}
+use Rattle.leaf.proofs.Filtering.{filt-app}
 use Rattle.theory_tree.proofs.Insert.{way, way-cells, way-versions}
 use Rattle.theory_stores.proofs.Keeping.{bytes-spliced, bytes-cell}
 use Rattle.theory_plan.proofs.Linking.{planAbove}

@@ -7,9 +7,9 @@ use mathlib.Core.Option.{Option, none, some}
 use Prim.Native.Nat.{ℕ}
 use native.Mathlib.Omega.{arith}
 use Rattle.store.specs.Pick.{pick}
-use Rattle.leaf.specs.Rows.{Row}
+use Rattle.leaf.specs.Rows.{Row, only, ofKey}
 use Rattle.leaf_edit.specs.EditFacts.{stampRow}
-use Rattle.theory_tree.specs.Versions.{only, ofKey, ofVersion, arrivals, orElse, when, lastOf}
+use Rattle.theory_tree.specs.Versions.{ofVersion, arrivals, orElse, when, lastOf}
 use Rattle.meaning.specs.Meant.{someOf, changeLast}
 use Rattle.theory_tree.proofs.Abs.{some?, some-same, wit-some}
 

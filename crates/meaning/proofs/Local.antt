@@ -17,7 +17,7 @@ use Rattle.leaf.specs.Rows.{Row}
 use Rattle.theory_tree.specs.Versions.{ofVersion, arrivals, best}
 use Rattle.meaning.specs.Change.{Change, inserts, insertsVersion, stamps, claims, removes, keyOf}
 use Rattle.meaning.specs.Meant.{Meant, refusedAs, doneWith, seenBy, arriving, onBest, stamped, liveRow, meantInsert, meantVersion, meantMark, meantClaim, meantRemove, meant}
-use Rattle.theory_tree.proofs.Order.{filt-app}
+use Rattle.leaf.proofs.Filtering.{filt-app}
 use Rattle.theory_tree.proofs.Abs.{best-same, ver-remove, ver-removed}
 use Rattle.theory_tree.proofs.Count.{count-same}
 use Rattle.meaning.proofs.Last.{some-alike, change-own, change-other}

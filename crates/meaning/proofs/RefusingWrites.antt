@@ -16,7 +16,7 @@ use Rattle.row.specs.declared.Fault.{Fault}
 use Rattle.row.specs.declared.Stamp.{Stamp}
 use Rattle.row.specs.declared.Pointer.{Pointer}
 use Rattle.mvcc.specs.Lists.{mem}
-use Rattle.mvcc.specs.Snapshot.{lookup, goodStatuses, creatorOf, Snapshot, Statuses, plainSnapshot, statuses}
+use Rattle.mvcc.specs.Snapshot.{lookup, goodStatuses, creatorOf, Snapshot, Statuses, plainSnapshot}
 use Rattle.mvcc.specs.declared.Current.{Current}
 use Rattle.leaf.specs.Place.{cutFits}
 use Rattle.tree.specs.Descend.{descendOf, onLeaf}

@@ -1,23 +1,21 @@
 -- What the reading calls say of a well-formed tree: its versions and its page numbers. Assumes nothing.
 use mathlib.Core.Path.{_≡_, refl, sym, ap, _∙_}
 use mathlib.Core.Bool.{Bool, true, false, _&&_}
-use mathlib.Core.List.{List, [], _∷_, _++_, append-nil, append-assoc}
+use mathlib.Core.List.{List, [], _++_, append-nil, append-assoc}
 use Prim.Native.Nat.{ℕ}
-use lib.Dec.{eqb}
 use Rattle.store.specs.Pick.{pick}
-use Rattle.mvcc.specs.Snapshot.{lookup, goodStatuses, Snapshot, Statuses, goodSnapshot, snapshot, noStatuses}
+use Rattle.mvcc.specs.Snapshot.{lookup, goodStatuses, Snapshot, Statuses, goodSnapshot, noStatuses}
 use Rattle.mvcc.specs.Rules.{conflicting}
 use Rattle.leaf.specs.Cells.{judgeLeaf}
-use Rattle.leaf.specs.Rows.{Row, rows}
+use Rattle.leaf.specs.Rows.{Row, rows, only, ofKey}
 use Rattle.leaf.specs.declared.Judged.{Judged}
 use Rattle.leaf.specs.declared.find.Best.{Best}
 use Rattle.tree.specs.Chain.{Seen, stop, go, ok, along}
 use Rattle.tree.specs.declared.ChainBest.{ChainBest}
 use Rattle.tree_grow.specs.Grow.{Grown}
 use Rattle.list_records.specs.Records.{records}
-use Rattle.list_versions.specs.Gather.{rowsOfKey}
-use Rattle.theory_tree.specs.Versions.{only, ofKey, best}
 use Rattle.list_versions.specs.Gather.{lookRows, rowsAlong}
+use Rattle.theory_tree.specs.Versions.{best}
 use Rattle.list_versions.specs.Listed.{listTree}
 use Rattle.list_versions.specs.declared.Which.{Which}
 use Rattle.list_pages.specs.Numbers.{numberRecords, numbersTree}
@@ -33,6 +31,8 @@ use Rattle.theory_tree.specs.Shape.{Shape, chain, first, All, WellFormed}
 use Rattle.meaning.specs.Trees.{TreeIn}
 use Rattle.meaning.specs.Meant.{seenBy, someOf, onBest}
 use Rattle.meaning.specs.Reads.{listing, numbersIn, ReadsTell}
+use Rattle.leaf.proofs.Filtering.{filt-app}
+use Rattle.theory_tree.proofs.Order.{filt-none}
 use Rattle.theory_tree.proofs.Workers.{larger}
 use Rattle.theory_tree.proofs.Contexts.{top}
 use Rattle.theory_tree.proofs.Seek.{leafOf}
@@ -52,47 +52,26 @@ looked-number s Best.Nothing = refl
 
 -- ---- the rows that a listing gathers
 
-keyed-app : (key : ℕ) (xs ys : List Row) → rowsOfKey key (xs ++ ys) ≡ rowsOfKey key xs ++ rowsOfKey key ys
-unfolding rowsOfKey
-keyed-app key [] ys = refl
-keyed-app key (x ∷ xs) ys = by-key (eqb (x .key) key) (keyed-app key xs ys)
-  where
-    by-key : (b : Bool) → rowsOfKey key (xs ++ ys) ≡ rowsOfKey key xs ++ rowsOfKey key ys
-        → pick b (x ∷ rowsOfKey key (xs ++ ys)) (rowsOfKey key (xs ++ ys)) ≡ pick b (x ∷ rowsOfKey key xs) (rowsOfKey key xs) ++ rowsOfKey key ys
-    by-key true e = ap (λ (l : List Row). x ∷ l) e
-    by-key false e = e
-
-keyed-none : (key : ℕ) (rs : List Row) → All (λ (r : Row). ofKey key r ≡ false) rs → rowsOfKey key rs ≡ []
-unfolding rowsOfKey
-keyed-none key [] h = refl
-keyed-none key (r ∷ rs) h = rw (h .0) (keyed-none key rs (h .1))
-
-keyed-is : (key : ℕ) (rs : List Row) → rowsOfKey key rs ≡ only (ofKey key) rs
-unfolding rowsOfKey
-keyed-is key [] = refl
-keyed-is key (r ∷ rs) = rw (keyed-is key rs)
-
 module _ (s : List ℕ) (root used : ℕ) (t : Shape) (f : WellFormed (view s) root used t) where
   key-rows : (key : ℕ) → rowsAlong s used (leafOf key t) (Which.Key key) ≡ ok (only (ofKey key) (chain t))
-  unfolding rowsAlong rowsOfKey
+  unfolding rowsAlong
   key-rows key =
       walk-key (lookRows (Which.Key key)) key step says skips s root used t f []
       ∙ ap (λ (rs : List Row). ok rs)
-      (gather-chain step s used (λ a rs. a ++ rowsOfKey key rs) (λ a p pg e j. refl) append-nil joins t (at-leaves s root used t f (locs t top) (locs-plug t top)) []
-      ∙ keyed-is key (chain t))
+      (gather-chain step s used (λ a rs. a ++ only (ofKey key) rs) (λ a p pg e j. refl) append-nil joins t (at-leaves s root used t f (locs t top) (locs-plug t top)) [])
     where
       step : List Row → ℕ → List ℕ → List Row
-      step a p pg = a ++ rowsOfKey key (rows pg)
+      step a p pg = a ++ only (ofKey key) (rows pg)
 
       says : (a : List Row) (p : ℕ) (pg : List ℕ) (e : ℕ) → judgeLeaf p pg ≡ Judged.Ok e
           → lookRows (Which.Key key) a p pg ≡ pick (larger key (rows pg)) (stop (step a p pg)) (go (step a p pg))
       says a p pg e j = rw (j, larger-is key pg)
 
       skips : (a : List Row) (p : ℕ) (pg : List ℕ) (e : ℕ) → judgeLeaf p pg ≡ Judged.Ok e → All (λ (r : Row). ofKey key r ≡ false) (rows pg) → step a p pg ≡ a
-      skips a p pg e j o = ap (λ (l : List Row). a ++ l) (keyed-none key (rows pg) o) ∙ append-nil a
+      skips a p pg e j o = ap (λ (l : List Row). a ++ l) (filt-none (ofKey key) (rows pg) o) ∙ append-nil a
 
-      joins : (a xs ys : List Row) → a ++ rowsOfKey key (xs ++ ys) ≡ (a ++ rowsOfKey key xs) ++ rowsOfKey key ys
-      joins a xs ys = ap (λ (l : List Row). a ++ l) (keyed-app key xs ys) ∙ sym (append-assoc a (rowsOfKey key xs) (rowsOfKey key ys))
+      joins : (a xs ys : List Row) → a ++ only (ofKey key) (xs ++ ys) ≡ (a ++ only (ofKey key) xs) ++ only (ofKey key) ys
+      joins a xs ys = ap (λ (l : List Row). a ++ l) (filt-app (ofKey key) xs ys) ∙ sym (append-assoc a (only (ofKey key) xs) (only (ofKey key) ys))
 
   -- every look that takes all of a leaf's rows
   whole : (look : List Row → ℕ → List ℕ → Seen (List Row))

@@ -12,9 +12,9 @@ use Rattle.row.specs.declared.Pointer.{Pointer}
 use Rattle.mvcc.specs.Snapshot.{lookup, goodStatuses, creatorOf, Snapshot, Statuses, goodSnapshot, plainSnapshot}
 use Rattle.mvcc.specs.Rules.{visible, claimConflicting}
 use Rattle.mvcc.specs.declared.Current.{Current}
-use Rattle.leaf.specs.Rows.{Row}
+use Rattle.leaf.specs.Rows.{Row, only, ofKey}
 use Rattle.leaf_edit.specs.EditFacts.{stampRow}
-use Rattle.theory_tree.specs.Versions.{only, ofKey, ofVersion, best}
+use Rattle.theory_tree.specs.Versions.{ofVersion, best}
 use Rattle.meaning.specs.Change.{Change, inserts, insertsVersion, stamps, claims, removes}
 use Rattle.call_answers.specs.Names.{Absent, BadData, BadSnapshot, BadStatuses, Conflict, Duplicate, unless}
 use Rattle.row.specs.Write.{maxData}

@@ -25,7 +25,8 @@ use Rattle.call_read.specs.Numbers.{pageNumbersCall}
 use Rattle.call_read.specs.Scan.{scanVisibleCall}
 use Rattle.call_clean.specs.Vacuum.{vacuumCall}
 use Rattle.theory_tree.specs.Shape.{Shape, leaf, node, pair, chain}
-use Rattle.theory_tree.specs.Versions.{only, ofKey, best}
+use Rattle.leaf.specs.Rows.{only, ofKey}
+use Rattle.theory_tree.specs.Versions.{best}
 use Rattle.meaning.specs.Trees.{TreeIn}
 use Rattle.meaning.specs.Meant.{seenBy, someOf, onBest}
 

@@ -1,6 +1,6 @@
 -- What is proved of the rules, for readers of section 4 and for the cases P7 and P8 of section 8.
 use mathlib.Core.Path.{_≡_}
-use mathlib.Core.Bool.{Bool, true, false, _&&_, not}
+use mathlib.Core.Bool.{true, false}
 use mathlib.Core.List.{List, [], _∷_}
 use Prim.Native.Nat.{ℕ, _<_}
 use Rattle.row.specs.declared.Stamp.{Stamp}

@@ -1,9 +1,8 @@
 -- Lists of transaction numbers (document 01, sections 4 and 6): strictly rising, membership, the state beside a
 -- number, and which active lists are refused.
-use mathlib.Core.Path.{_≡_}
 use mathlib.Core.Bool.{Bool, true, false, _&&_, _||_}
 use mathlib.Core.List.{List, [], _∷_}
-use Prim.Native.Nat.{ℕ, suc}
+use Prim.Native.Nat.{ℕ}
 use lib.ListN.{length}
 use lib.Dec.{leb, ltb, eqb}
 use Rattle.store.specs.Pick.{pick}

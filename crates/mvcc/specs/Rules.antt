@@ -1,7 +1,7 @@
 -- Document 01, section 4, sentence by sentence. A status list is the function that it gives: st t is 0 where t is
 -- absent, 1 active, 2 committed, 3 aborted; so another form of the list changes no rule.
-use mathlib.Core.Bool.{Bool, true, false, not, _&&_, _||_}
-use mathlib.Core.List.{List, []}
+use mathlib.Core.Bool.{Bool, false, not, _&&_, _||_}
+use mathlib.Core.List.{List}
 use Prim.Native.Nat.{ℕ}
 use lib.Dec.{leb, ltb, eqb}
 use Rattle.store.specs.Pick.{pick}

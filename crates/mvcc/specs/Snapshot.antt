@@ -1,7 +1,6 @@
 -- What a call is given to see by (document 01, section 4): a snapshot ("xmax, a strictly rising active list, and possibly a
 -- current transaction") and a status list, each as one value, and which of them are refused (section 6).
-use mathlib.Core.Path.{_≡_}
-use mathlib.Core.Bool.{Bool, true, _&&_}
+use mathlib.Core.Bool.{Bool, _&&_}
 use mathlib.Core.List.{List, []}
 use Prim.Native.Nat.{ℕ}
 use lib.ListN.{length}

@@ -1,6 +1,6 @@
 -- A part of a list, and a list with a part replaced: every store and every copy is said in these words.
 use mathlib.Core.List.{List, _++_}
-use Prim.Native.Nat.{ℕ, _+_, _-_}
+use Prim.Native.Nat.{ℕ, _-_}
 use lib.ListN.{length, take, drop, replicate}
 
 -- the n elements from a on

@@ -1,6 +1,5 @@
 -- Laws of `theory_clean` for the crates above.
 pub mod Changing
-pub mod Running
 pub mod Removing
 pub mod Vacuuming
 pub mod Framing

@@ -10,123 +10,93 @@ use lib.ListN.{length, length-append}
 use borrow.Author.Tests.{eqb-true}
 use Rattle.store.specs.Pick.{pick}
 use Rattle.store.specs.Le.{AreBytes}
-use Rattle.page.specs.Page.{page, setPage}
-use Rattle.page.specs.Header.{cellCount, nextLeaf}
+use Rattle.page.specs.Page.{page}
+use Rattle.page.specs.Header.{nextLeaf}
 use Rattle.page.specs.Pool.{goodPool}
 use Rattle.page.specs.declared.pool.State.{State}
-use Rattle.leaf.specs.Cells.{cells, foldCells, judgeLeaf}
-use Rattle.leaf.specs.Find.{running, runLeaf}
-use Rattle.leaf.specs.Rows.{Row, rows}
+use Rattle.leaf.specs.Cells.{judgeLeaf}
+use Rattle.leaf.specs.Rows.{Row, rows, writeRows, only, ofKey}
 use Rattle.leaf.specs.declared.Judged.{Judged}
-use Rattle.leaf.specs.declared.find.Run.{Run}
-use Rattle.leaf.specs.declared.find.LeafRun.{LeafRun}
-use Rattle.leaf_edit.specs.Edit.{without}
 use Rattle.tree.specs.Chain.{stop, go}
 use Rattle.call_answers.specs.Answer.{done, ended}
-use Rattle.call_clean.specs.Remove.{seenRun, lookRun, countAlong, onRun, withoutRun, removedAlong, removeCall}
+use Rattle.call_clean.specs.Remove.{heldRows, removedLeaf, lookHeld, countAlong, removedAlong, removeCall}
 use Rattle.call_clean.specs.declared.remove.ChainCount.{ChainCount}
 use Rattle.theory_tree.specs.View.{view}
 use Rattle.theory_tree.specs.Shape.{Shape, chain, All, WellFormed}
-use Rattle.theory_tree.specs.Versions.{only, ofKey}
 use Rattle.page.proofs.PoolLaws.{pool-is}
-use Rattle.leaf.proofs.Rowing.{endOf}
+use Rattle.leaf.proofs.Filtering.{filt-app, only-others, only-fits, only-short}
 use Rattle.call_clean.proofs.Storing.{remove-last, remove-end, remove-on}
 use Rattle.call_clean.proofs.Calls.{remove-done, remove-call}
 use Rattle.theory_tree.proofs.Workers.{larger}
 use Rattle.theory_tree.proofs.Contexts.{top, Loc}
 use Rattle.theory_tree.proofs.Lists.{all-map}
 use Rattle.theory_tree.proofs.Map.{mapS, filt-all, filt-keeps, filt-chain}
-use Rattle.theory_tree.proofs.Order.{filt-app, filt-none}
+use Rattle.theory_tree.proofs.Order.{filt-none}
 use Rattle.theory_tree.proofs.Seek.{leafOf}
 use Rattle.theory_tree.proofs.Walk.{locs, froms, locs-plug}
 use Rattle.theory_walks.proofs.Descending.{descend-search}
 use Rattle.theory_walks.proofs.Looking.{larger-is}
 use Rattle.theory_walks.proofs.Walking.{at-leaves, upTo, around, gather-chain, walk-key}
 use Rattle.theory_clean.proofs.Changing.{LeafIs, PoolHas, HasBytes, Changed, unchanged, rewritten, changedAt, changed, Mapped, mapped, change-search}
-use Rattle.theory_clean.proofs.Running.{only-others, only-fits, only-short, Splits, run-splits, rows-same, count-in, run-out}
 
 module _ (key : ℕ) where
   -- the rows of other keys
   abbrev othersOf : List Row → List Row
   othersOf rs = only (λ (x : Row). not (ofKey key x)) rs
 
-  abbrev runOf : List ℕ → Run
-  runOf pg = foldCells (running key) (record { from = 12; to = 12; count = 0 }) (cells pg)
-
-  run-told : (p e : ℕ) (pg : List ℕ) → judgeLeaf p pg ≡ Judged.Ok e → runLeaf pg p key ≡ LeafRun.Ok (runOf pg) e (larger key (rows pg))
-  unfolding runLeaf
-  run-told p e pg j = rw (j, larger-is key pg)
-
-  run-count : (p e : ℕ) (pg : List ℕ) → judgeLeaf p pg ≡ Judged.Ok e → runOf pg .count ≡ length (only (ofKey key) (rows pg))
-  run-count p e pg j =
-      let r = run-splits key p e pg j in
-      ap (λ (x : Run). x .count) (r .told) ∙ sym (count-in key pg r)
-
   -- ---- the count
 
   abbrev step : ℕ → ℕ → List ℕ → ℕ
-  step n p pg = n + runOf pg .count
+  step n p pg = n + length (heldRows key pg)
 
-  count-says : (n p : ℕ) (pg : List ℕ) (e : ℕ) → judgeLeaf p pg ≡ Judged.Ok e → lookRun key n p pg ≡ pick (larger key (rows pg)) (stop (step n p pg)) (go (step n p pg))
-  count-says n p pg e j = rw (run-told p e pg j) (by-end (larger key (rows pg)))
-    where
-      by-end : (b : Bool) → seenRun n (LeafRun.Ok (runOf pg) e b) ≡ pick b (stop (step n p pg)) (go (step n p pg))
-      by-end true = refl
-      by-end false = refl
+  count-says : (n p : ℕ) (pg : List ℕ) (e : ℕ) → judgeLeaf p pg ≡ Judged.Ok e → lookHeld key n p pg ≡ pick (larger key (rows pg)) (stop (step n p pg)) (go (step n p pg))
+  count-says n p pg e j = rw (j, larger-is key pg)
 
   count-skips : (n p : ℕ) (pg : List ℕ) (e : ℕ) → judgeLeaf p pg ≡ Judged.Ok e → All (λ (r : Row). ofKey key r ≡ false) (rows pg) → step n p pg ≡ n
   count-skips n p pg e j o =
       let z : length (only (ofKey key) (rows pg)) ≡ 0 = ap length (filt-none (ofKey key) (rows pg) o) in
-      omega (arith, run-count p e pg j)
+      omega arith
 
   module _ (s : List ℕ) (root used : ℕ) (t : Shape) (w : WellFormed (view s) root used t) where
     counted : countAlong s used (leafOf key t) key ≡ ChainCount.Ok (length (only (ofKey key) (chain t)))
     unfolding countAlong
     counted =
-        rw (walk-key (lookRun key) key step count-says count-skips s root used t w 0)
+        rw (walk-key (lookHeld key) key step count-says count-skips s root used t w 0)
         (ap (λ (n : ℕ). ChainCount.Ok n)
-        (gather-chain step s used (λ n rs. n + length (only (ofKey key) rs)) (λ n p pg e j. ap (λ (m : ℕ). n + m) (run-count p e pg j)) (λ n. omega arith)
+        (gather-chain step s used (λ n rs. n + length (only (ofKey key) rs)) (λ n p pg e j. refl) (λ n. omega arith)
         (λ n xs ys. omega (arith, ap length (filt-app (ofKey key) xs ys), length-append (only (ofKey key) xs) (only (ofKey key) ys)))
         t (at-leaves s root used t w (locs t top) (locs-plug t top)) 0
         ∙ omega arith))
 
   -- ---- the stores
 
-  -- a leaf without its cells of the key
+  -- a leaf without its rows of the key
   abbrev pub cleared : ℕ → List ℕ → List ℕ
-  cleared p pg = onRun (λ run e l. withoutRun run e pg) pg (runLeaf pg p key)
+  cleared p pg = removedLeaf key pg
 
   pub clears : (p e : ℕ) (pg : List ℕ) → LeafIs p e pg → Changed othersOf pg (cleared p pg)
-  clears p e pg is = rw (run-told p e pg (is .judged), r .told) (by-count (eqb (length (r .out)) 0) refl)
+  unfolding removedLeaf
+  clears p e pg is = by-count (eqb (length (heldRows key pg)) 0) refl
     where
-      r : Splits key 12 (cells pg)
-      r = run-splits key p e pg (is .judged)
-
       others : Row → Bool
       others x = not (ofKey key x)
 
-      by-count : (b : Bool) → eqb (length (r .out)) 0 ≡ b
-          → Changed othersOf pg (pick b pg (without (endOf 12 (r .before)) (endOf (endOf 12 (r .before)) (r .out)) (length (r .out)) e (cellCount pg) pg))
-      by-count true q = unchanged othersOf p e pg is (rows-same key pg r (eqb-true (length (r .out)) 0 q))
-      by-count false q =
-          rw (run-out key pg r e (is .sound))
-          (rewritten othersOf p e pg is (filt-all HasBytes others (rows pg)) (only-fits others (rows pg)) (only-short others (rows pg)))
+      by-count : (b : Bool) → eqb (length (heldRows key pg)) 0 ≡ b → Changed othersOf pg (pick b pg (writeRows (othersOf (rows pg)) pg))
+      by-count true q = unchanged othersOf p e pg is (only-others (ofKey key) (rows pg) (eqb-true (length (heldRows key pg)) 0 q))
+      by-count false q = rewritten othersOf p e pg is (filt-all HasBytes others (rows pg)) (only-fits others (rows pg)) (only-short others (rows pg))
 
   module _ (used m p e : ℕ) (s : List ℕ) (low : p < used) (is : LeafIs p e (page p s)) where
-    cleared-at : changedAt othersOf cleared clears p s ≡ setPage p (withoutRun (runOf (page p s)) e (page p s)) s
-    cleared-at = rw (run-told p e (page p s) (is .judged))
-
     pub clear-last : larger key (rows (page p s)) ≡ true → removedAlong s used p key (suc m) ≡ changedAt othersOf cleared clears p s
-    clear-last l = sym (remove-last used key p s low refl (run-told p e (page p s) (is .judged)) cleared-at (suc m) (omega arith) l)
+    clear-last l = sym (remove-last used key p s low (is .judged) refl (larger-is key (page p s)) (suc m) (omega arith) l)
 
     pub clear-end : larger key (rows (page p s)) ≡ false → nextLeaf (page p s) ≡ 0 → removedAlong s used p key (suc m) ≡ changedAt othersOf cleared clears p s
-    clear-end l z = sym (remove-end used key p s low refl (run-told p e (page p s) (is .judged)) cleared-at refl (suc m) (omega arith) l z)
+    clear-end l z = sym (remove-end used key p s low (is .judged) refl (larger-is key (page p s)) refl (suc m) (omega arith) l z)
 
     pub clear-on : (n : ℕ) → larger key (rows (page p s)) ≡ false → nextLeaf (page p s) ≡ n → (n ≡ 0 → ⊥)
         → removedAlong s used p key (suc m) ≡ removedAlong (changedAt othersOf cleared clears p s) used n key m
     clear-on n l q z =
         let k : suc m - 1 ≡ m = omega arith in
-        sym (rw k at (remove-on used key p s low refl (run-told p e (page p s) (is .judged)) cleared-at (sym q) (suc m) (omega arith) l z))
+        sym (rw k at (remove-on used key p s low (is .judged) refl (larger-is key (page p s)) (sym q) (suc m) (omega arith) l z))
 
   module _ (s : List ℕ) (root used : ℕ) (t : Shape) (w : WellFormed (view s) root used t) (h : PoolHas used s) where
     abbrev met : List Loc
@@ -140,7 +110,7 @@ module _ (key : ℕ) where
 
     others-stay : (ls : List Loc) → All (λ (l : Loc). All (λ (r : Row). ofKey key r ≡ false) (l .cells)) ls → All (λ (l : Loc). othersOf (l .cells) ≡ l .cells) ls
     others-stay =
-        all-map (λ (l : Loc). All (λ (r : Row). ofKey key r ≡ false) (l .cells)) (λ (l : Loc). othersOf (l .cells) ≡ l .cells) (λ l o. only-others key (l .cells) o)
+        all-map (λ (l : Loc). All (λ (r : Row). ofKey key r ≡ false) (l .cells)) (λ (l : Loc). othersOf (l .cells) ≡ l .cells) (λ l o. only-others (ofKey key) (l .cells) (ap length (filt-none (ofKey key) (l .cells) o)))
 
     tree-of : Mapped othersOf cleared clears s (changed othersOf cleared clears met s) root used t
     tree-of =

@@ -33,7 +33,6 @@ use Rattle.tree_room.specs.declared.Planned.{Planned}
 use Rattle.theory_tree.specs.Pages.{leafPage, innerPage, Pages, withPage}
 use Rattle.theory_tree.specs.Shape.{Shape, leaf, node, pair, pagesIn, head, rest, first, All, WellFormed}
 use Rattle.theory_tree.specs.View.{said, view}
-use Rattle.mvcc.specs.Snapshot.{snapshot}
 use Rattle.store.proofs.LeLaws.{length-putAt, leAt-putAt}
 use Rattle.store.proofs.PartLaws.{le-or-lt, length-part}
 use Rattle.store.proofs.SeamLaws.{length-pad, part-left, part-whole}

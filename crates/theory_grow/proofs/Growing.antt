@@ -21,7 +21,6 @@ use Rattle.tree_grow.specs.Steps.Safe.{There, Free}
 use Rattle.theory_tree.specs.Pages.{Page, innerPage, Pages, withPage}
 use Rattle.theory_tree.specs.Shape.{Shape, node, pair, pagesIn, head, rest, Holds, All}
 use Rattle.theory_tree.specs.View.{view}
-use Rattle.mvcc.specs.Snapshot.{snapshot}
 use Rattle.store.proofs.PartLaws.{le-or-lt}
 use Rattle.page.proofs.KeyLaws.{flip-less}
 use Rattle.page.proofs.PageLaws.{length-page}

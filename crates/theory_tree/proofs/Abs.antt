@@ -3,16 +3,17 @@
 use mathlib.Core.Path.{_≡_, refl, sym, ap, _∙_}
 use mathlib.Core.Bool.{Bool, true, false, _&&_, _||_, not}
 use Rattle.store.specs.Pick.{pick}
-use Rattle.leaf.specs.Rows.{Row}
+use Rattle.leaf.specs.Rows.{Row, only, ofKey}
 use Rattle.theory_tree.specs.Shape.{All}
-use Rattle.theory_tree.specs.Versions.{only, ofKey, ofVersion, arrivals, orElse, when, lastOf, merge, best}
+use Rattle.theory_tree.specs.Versions.{ofVersion, arrivals, orElse, when, lastOf, merge, best}
 use mathlib.Core.List.{List, [], _∷_, _++_, append-assoc, append-nil}
 use mathlib.Core.Option.{Option, none, some}
 use Prim.Native.Nat.{ℕ, _≤_, _<_}
 use native.Mathlib.Omega.{arith}
 use lib.Dec.{eqb, ltb}
 use borrow.Author.Tests.{eq-eqb, ne-eqb, ltb-true, ltb-false, eqb-true}
-use Rattle.theory_tree.proofs.Order.{filt-app, filt-none}
+use Rattle.leaf.proofs.Filtering.{filt-app}
+use Rattle.theory_tree.proofs.Order.{filt-none}
 
 -- insert: x goes behind all of its key and creator
 pub ver-insert : (k c : ℕ) (x : Row) (pre post : List Row) → All (λ y. ofVersion (x .key) (x .creator) y ≡ false) post

@@ -3,15 +3,15 @@
 use mathlib.Core.Path.{_≡_, refl, sym, ap, _∙_, subst}
 use mathlib.Core.Bool.{Bool, true, false, _&&_}
 use Rattle.store.specs.Pick.{pick}
-use Rattle.leaf.specs.Rows.{Row}
-use Rattle.theory_tree.specs.Versions.{only, ofKey, arrivals}
+use Rattle.leaf.specs.Rows.{Row, only, ofKey}
+use Rattle.theory_tree.specs.Versions.{arrivals}
 use mathlib.Core.List.{List, [], _∷_, _++_, nil≢cons, tail-eq-of-cons-eq, head-eq-of-cons-eq}
 use Prim.Native.Nat.{ℕ, suc}
 use native.Mathlib.Omega.{arith}
 use lib.ListN.{length, length-append}
 use lib.Dec.{eqb}
 use borrow.Author.Tests.{eq-eqb, eqb-true}
-use Rattle.theory_tree.proofs.Order.{filt-app}
+use Rattle.leaf.proofs.Filtering.{filt-app}
 
 abbrev pub cr : ℕ → List Row → List Row
 cr c l = only (λ x. eqb (x .creator) c) l

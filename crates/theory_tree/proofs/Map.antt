@@ -3,14 +3,14 @@
 use mathlib.Core.Path.{_≡_, refl, ap, _∙_}
 use mathlib.Core.Bool.{Bool, true, false}
 use Rattle.store.specs.Pick.{pick}
-use Rattle.leaf.specs.Rows.{Row}
+use Rattle.leaf.specs.Rows.{Row, only}
 use Rattle.theory_tree.specs.Pages.{Page, leafPage, innerPage, noPage, Pages}
 use Rattle.theory_tree.specs.Shape.{Shape, leaf, node, pair, chain, pagesIn, head, rest, first, Holds, Deep, All, KeysIn, Sorted, NotAfter, Bounded, Sized, IsTree, LaterNotZero, WellFormed}
-use Rattle.theory_tree.specs.Versions.{only}
 use mathlib.Core.List.{List, [], _∷_}
 use Prim.Native.Nat.{ℕ}
 use Rattle.theory_tree.proofs.Lists.{all-left, all-right}
-use Rattle.theory_tree.proofs.Order.{btw-weak, filt-app}
+use Rattle.leaf.proofs.Filtering.{filt-app}
+use Rattle.theory_tree.proofs.Order.{btw-weak}
 
 module _ (f : List Row → List Row) where
   abbrev pub mapS : Shape → Shape

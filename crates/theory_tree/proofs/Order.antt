@@ -2,10 +2,8 @@
 -- Assumes nothing.
 use mathlib.Core.Path.{_≡_, refl, sym, ap, _∙_}
 use mathlib.Core.Bool.{Bool, true, false}
-use Rattle.store.specs.Pick.{pick}
-use Rattle.leaf.specs.Rows.{Row}
+use Rattle.leaf.specs.Rows.{Row, only}
 use Rattle.theory_tree.specs.Shape.{Shape, leaf, node, pair, chain, All, KeysIn, Bounded}
-use Rattle.theory_tree.specs.Versions.{only}
 use mathlib.Core.List.{List, [], _∷_, _++_, append-assoc, append-nil}
 use Prim.Native.Nat.{ℕ, _≤_, _<_}
 use native.Mathlib.Omega.{arith}
@@ -56,15 +54,6 @@ pub leaves-chain : (t : Shape) → flat (leaves t) ≡ chain t
 leaves-chain (leaf p cs) = append-nil cs
 leaves-chain (node p f) = leaves-chain f
 leaves-chain (pair a k b) = rw (flat-app, leaves-chain a, leaves-chain b)
-
-pub filt-app : (f : Row → Bool) (a b : List Row) → only f (a ++ b) ≡ only f a ++ only f b
-filt-app f [] b = refl
-filt-app f (x ∷ xs) b = go (f x) (filt-app f xs b)
-  where
-    go : (c : Bool) → only f (xs ++ b) ≡ only f xs ++ only f b
-        → pick c (x ∷ only f (xs ++ b)) (only f (xs ++ b)) ≡ pick c (x ∷ only f xs) (only f xs) ++ only f b
-    go true i = ap (λ r. x ∷ r) i
-    go false i = i
 
 pub filt-none : (f : Row → Bool) (a : List Row) → All (λ x. f x ≡ false) a → only f a ≡ []
 filt-none f [] h = refl

@@ -7,16 +7,9 @@ use mathlib.Core.Option.{Option, none, some}
 use Prim.Native.Nat.{ℕ}
 use lib.Dec.{ltb, eqb}
 use Rattle.store.specs.Pick.{pick}
-use Rattle.leaf.specs.Rows.{Row}
+use Rattle.leaf.specs.Rows.{Row, only, ofKey}
 
-abbrev pub only : (Row → Bool) → List Row → List Row
-only f [] = []
-only f (x ∷ xs) = pick (f x) (x ∷ only f xs) (only f xs)
-
--- a row of the key k; of the key k and the creator c
-abbrev pub ofKey : ℕ → Row → Bool
-ofKey k x = eqb (x .key) k
-
+-- a row of the key k and the creator c
 abbrev pub ofVersion : ℕ → ℕ → Row → Bool
 ofVersion k c x = eqb (x .key) k && eqb (x .creator) c
 

@@ -15,7 +15,7 @@ use Rattle.row.specs.declared.Cell.{Cell}
 use Rattle.mvcc.specs.Rules.{visible}
 use Rattle.leaf.specs.Cells.{cells, foldCells, judgeLeaf, hasLarger}
 use Rattle.leaf.specs.Find.{later, newest, findLeaf, testOf, joined, testLeaf}
-use Rattle.leaf.specs.Rows.{Row, rowOf, rows}
+use Rattle.leaf.specs.Rows.{Row, rowOf, rows, ofKey}
 use Rattle.leaf.specs.declared.Judged.{Judged}
 use Rattle.leaf.specs.declared.find.Best.{Best}
 use Rattle.leaf.specs.declared.find.LeafBest.{LeafBest}
@@ -26,8 +26,8 @@ use Rattle.tree.specs.declared.ChainBest.{ChainBest}
 use Rattle.tree.specs.declared.ChainTest.{ChainTest}
 use Rattle.theory_tree.specs.View.{view}
 use Rattle.theory_tree.specs.Shape.{Shape, leaf, chain, All, WellFormed}
-use Rattle.theory_tree.specs.Versions.{ofKey, arrivals, when, better, merge, best}
-use Rattle.mvcc.specs.Snapshot.{Snapshot, snapshot}
+use Rattle.theory_tree.specs.Versions.{arrivals, when, better, merge, best}
+use Rattle.mvcc.specs.Snapshot.{Snapshot}
 use Rattle.theory_tree.proofs.Workers.{flat, larger}
 use Rattle.theory_tree.proofs.Contexts.{Ctx, top, plug, preC, postC, Loc}
 use Rattle.theory_tree.proofs.Lists.{all-app}

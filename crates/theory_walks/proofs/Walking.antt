@@ -12,12 +12,11 @@ use borrow.Author.Tests.{le-leb, leb-false, ne-eqb}
 use Rattle.store.specs.Pick.{pick}
 use Rattle.page.specs.Page.{page}
 use Rattle.leaf.specs.Cells.{judgeLeaf}
-use Rattle.leaf.specs.Rows.{Row, rows}
+use Rattle.leaf.specs.Rows.{Row, rows, ofKey}
 use Rattle.leaf.specs.declared.Judged.{Judged}
 use Rattle.tree.specs.Chain.{Seen, stop, go, ok, along}
 use Rattle.theory_tree.specs.View.{view}
 use Rattle.theory_tree.specs.Shape.{Shape, leaf, node, pair, chain, pagesIn, first, All, KeysIn, Bounded, WellFormed}
-use Rattle.theory_tree.specs.Versions.{ofKey}
 use Rattle.tree.proofs.Ways.{along-last, along-end, along-on}
 use Rattle.theory_tree.proofs.Says.{LeafSays}
 use Rattle.theory_tree.proofs.Workers.{flat, from, larger}

@@ -33,7 +33,7 @@ use Rattle.page.proofs.PageLaws.{length-page}
 use Rattle.row.proofs.Exact.{cell-placed}
 use Rattle.leaf.proofs.Bytes.{bytes-page}
 use Rattle.leaf.proofs.Rowing.{endOf}
-use Rattle.leaf.proofs.Chain.{Chain, chain-cells, judged-leaf, cells-room}
+use Rattle.leaf.proofs.Chain.{Chain, chain-cells, judged-leaf, chain-few}
 use Rattle.leaf.proofs.Placed.{PlaceSplit, place-split}
 use Rattle.leaf.proofs.Choosing.{any-page}
 
@@ -171,5 +171,5 @@ spot-is used root key creator s x B room e =
       inside = rw at (i .high);
       within = i .within;
       among = rw (t .placed .place) (omega (arith, place-among key creator (record { at = 12; before = 0 }) (cells pg), all .count));
-      few = omega (arith, cells-room pg 12 (cells pg) (chain-cells pg (cellCount pg) 12), all .count, all .end, i .within);
+      few = omega (arith, chain-few pg 12 (cells pg) (chain-cells pg (cellCount pg) 12), all .count, all .end, i .within);
     }

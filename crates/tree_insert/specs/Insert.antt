@@ -1,7 +1,7 @@
 -- A new version put into its leaf (document 01, section 5): in place where it fits; otherwise the leaf divides, and what
 -- follows above is said by `settled`.
 use mathlib.Core.List.{List}
-use Prim.Native.Nat.{ℕ, _+_, _-_, _≤_, _<_}
+use Prim.Native.Nat.{ℕ, _+_, _-_}
 use lib.Dec.{ltb}
 use Rattle.store.specs.Pick.{pick}
 use Rattle.store.specs.Part.{spliced}

@@ -35,7 +35,7 @@ use Rattle.mvcc.specs.Snapshot.{Snapshot}
 use Rattle.page.proofs.PageLaws.{page-short}
 use Rattle.row.proofs.Exact.{CellPlaced, cell-placed}
 use Rattle.leaf.proofs.Rowing.{endOf}
-use Rattle.leaf.proofs.Chain.{Chain, chain-cells, chain-right, chain-inside, end-append, judged-leaf, cells-room}
+use Rattle.leaf.proofs.Chain.{Chain, chain-cells, chain-right, chain-inside, end-append, judged-leaf, chain-few}
 
 -- ---- what a lookup finds
 
@@ -139,7 +139,7 @@ module _ (pg : List ℕ) (at : ℕ) where
   beside-front j from [] h l = ap (λ (k : ℕ). record { before = k; end = from }) (omega arith)
   beside-front j from (c ∷ cs) h l =
       let p = cell-placed pg from c (h .0) in
-      let r = cells-room pg (c .next) cs (h .1) in
+      let r = chain-few pg (c .next) cs (h .1) in
       let t = lt-ltb from at (omega (arith, p .past-head, p .whole)) in
       let i : j + 1 + length cs ≡ j + suc (length cs) = omega arith in
       rw (t, ← i) (beside-front (j + 1) (c .next) cs (h .1) l)
@@ -219,8 +219,8 @@ module _ (pg : List ℕ) (short : length pg ≤ 4096) (p e : ℕ) (judged : judg
   beside-stands : Stands pg c (record { before = length xs; end = e })
   beside-stands =
       let count : length xs + suc (length ys) ≡ cellCount pg = sym (length-append xs (c ∷ ys)) ∙ (sym (ap length among) ∙ judged-leaf p pg e judged .count) in
-      let low = cells-room pg 12 xs chain-first in
-      let high = cells-room pg (c .next) ys (chain-rest .1) in
+      let low = chain-few pg 12 xs chain-first in
+      let high = chain-few pg (c .next) ys (chain-rest .1) in
       let size : c .at + 19 ≤ c .next = omega (arith, at-is, here .past-head, here .whole) in
       let within : e ≤ 4096 = omega (arith, chain-inside pg (c .next) ys (here .inside) (chain-rest .1), short, end-is) in
       record {

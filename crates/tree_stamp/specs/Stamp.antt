@@ -1,8 +1,7 @@
 -- A version stamped in its leaf (document 01, section 5; btree.rs, mark_deleted_visible): over the stamp that it has, or by
 -- 8 bytes longer; then the leaf may be overfull and divides "exactly as on insert".
-use mathlib.Core.Path.{_≡_}
 use mathlib.Core.List.{List}
-use Prim.Native.Nat.{ℕ, _+_, _-_, _≤_, _<_}
+use Prim.Native.Nat.{ℕ, _+_, _-_}
 use lib.Dec.{ltb}
 use Rattle.store.specs.Pick.{pick}
 use Rattle.store.specs.Part.{part, spliced}

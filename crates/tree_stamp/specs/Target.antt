@@ -1,8 +1,7 @@
 -- The version that is to be stamped (document 01, sections 4 and 5), with what its leaf has beside it: how many cells stand
 -- before it, and where the leaf's cells end.
-use mathlib.Core.Path.{_≡_}
-use mathlib.Core.List.{List, _∷_, _++_}
-use Prim.Native.Nat.{ℕ, _+_, _<_}
+use mathlib.Core.List.{List}
+use Prim.Native.Nat.{ℕ, _+_}
 use lib.Dec.{ltb}
 use Rattle.store.specs.Pick.{pick}
 use Rattle.row.specs.declared.Cell.{Cell}

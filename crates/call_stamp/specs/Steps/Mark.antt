@@ -1,6 +1,6 @@
 -- What a stamp's internal functions say of themselves: the refusal of a lookup that found nothing, and what the stores need.
 use mathlib.Core.Path.{_≡_}
-use mathlib.Core.Bool.{Bool, true, false}
+use mathlib.Core.Bool.{true}
 use mathlib.Core.List.{List}
 use Prim.Native.Nat.{ℕ, _/_}
 use lib.ListN.{length}

@@ -1,5 +1,5 @@
 -- What parent links need: every page that is written is there when it is written.
-use mathlib.Core.List.{List, _++_}
+use mathlib.Core.List.{List}
 use Prim.Native.Nat.{ℕ, zero, suc, _+_, _*_, _≤_}
 use lib.ListN.{length}
 use Rattle.page.specs.Page.{page, setPage}

@@ -1,8 +1,6 @@
 -- One step of a walk over cells, as the code takes it: where the next cell ends, or why the walk cannot go on.
-use mathlib.Core.Bool.{Bool, _&&_, _||_, false}
-use mathlib.Core.List.{List, [], _∷_}
-use Prim.Native.Nat.{ℕ, zero, suc}
-use lib.Dec.{leb, ltb, eqb}
+use mathlib.Core.List.{List}
+use Prim.Native.Nat.{ℕ}
 use Rattle.row.specs.Read.{cellAt}
 use Rattle.row.specs.declared.Fault.{Fault}
 use Rattle.leaf.specs.Cells.{onCell, stepOf, onStep}

@@ -1,8 +1,7 @@
 -- The order of a leaf's rows as a test, for the laws of places.
-use mathlib.Core.List.{List, [], _∷_, _++_, map}
+use mathlib.Core.List.{List, [], _∷_}
 use mathlib.Core.Bool.{Bool, true, _&&_}
-use Prim.Native.Nat.{ℕ, _≤_, _<_}
-use lib.ListN.{length}
+use Prim.Native.Nat.{ℕ}
 use Rattle.leaf.specs.Cells.{inOrder}
 use Rattle.leaf.specs.Rows.{Row}
 

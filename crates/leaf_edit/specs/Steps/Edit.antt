@@ -1,5 +1,5 @@
 -- The gap that an edit opens before its writer fills it.
-use mathlib.Core.List.{List, []}
+use mathlib.Core.List.{List}
 use Prim.Native.Nat.{ℕ, _+_, _-_}
 use Rattle.store.specs.Part.{part, put, zeros}
 

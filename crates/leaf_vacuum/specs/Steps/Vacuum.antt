@@ -1,6 +1,6 @@
 -- How the code vacuums a leaf: cell by cell in place, each drop moving the tail.
-use mathlib.Core.Bool.{Bool, true, false}
-use mathlib.Core.List.{List, [], _∷_}
+use mathlib.Core.Bool.{Bool, true}
+use mathlib.Core.List.{List}
 use Prim.Native.Nat.{ℕ, zero, suc, _+_, _-_}
 use Rattle.store.specs.Part.{part, pad, spliced}
 use Rattle.row.specs.Read.{cellAt}

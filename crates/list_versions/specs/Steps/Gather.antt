@@ -1,9 +1,8 @@
 -- The run of a leaf's cells that is listed, and the length of the listing: what the two walks of a listing say.
 use mathlib.Core.Path.{_≡_}
-use mathlib.Core.Bool.{Bool, true, false}
-use mathlib.Core.List.{List, [], _∷_, _++_}
+use mathlib.Core.Bool.{true, false}
+use mathlib.Core.List.{List, []}
 use Prim.Native.Nat.{ℕ}
-use lib.Dec.{eqb}
 use lib.ListN.{length}
 use Rattle.page.specs.Header.{cellCount, headerSize}
 use Rattle.leaf.specs.Cells.{judgeLeaf, onJudged}

@@ -1,10 +1,7 @@
 -- What the search by halves finds.
-use mathlib.Core.Path.{_≡_}
-use mathlib.Core.Bool.{Bool, true, false, _&&_, _||_}
 use mathlib.Core.List.{List, [], _∷_}
 use Prim.Native.Nat.{ℕ, suc}
-use lib.ListN.{length}
-use lib.Dec.{leb, ltb, eqb}
+use lib.Dec.{ltb}
 use Rattle.store.specs.Pick.{pick}
 
 -- how many stand before the first that is at least x: what the search by halves finds

@@ -1,10 +1,7 @@
 -- What a judged status list gives its readers.
 use mathlib.Core.Path.{_≡_}
-use mathlib.Core.Bool.{Bool, true, _&&_}
-use mathlib.Core.List.{List, []}
-use Prim.Native.Nat.{ℕ}
+use mathlib.Core.Bool.{true}
 use lib.ListN.{length}
-use lib.Dec.{leb, eqb}
 use Rattle.mvcc.specs.Lists.{rising}
 use Rattle.mvcc.specs.Snapshot.{Statuses}
 

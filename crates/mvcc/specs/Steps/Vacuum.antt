@@ -1,5 +1,5 @@
 -- The fate of one stamped version, by its deleter alone.
-use mathlib.Core.Bool.{Bool, _&&_, _||_}
+use mathlib.Core.Bool.{_&&_}
 use Prim.Native.Nat.{ℕ}
 use lib.Dec.{ltb, eqb}
 use Rattle.store.specs.Pick.{pick}

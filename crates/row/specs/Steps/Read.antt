@@ -1,9 +1,6 @@
 -- What the reader's own steps answer: the head of a payload, and where a cell ends.
-use mathlib.Core.Bool.{Bool, true, false, not, _&&_, _||_}
 use mathlib.Core.List.{List}
-use Prim.Native.Nat.{ℕ, zero, suc, _+_, _-_}
-use lib.Dec.{ltb, leb, eqb}
-use lib.ListN.{length}
+use Prim.Native.Nat.{ℕ, zero, suc}
 use Rattle.row.specs.declared.read.HeadRead.{HeadRead}
 use Rattle.row.specs.declared.read.CellRead.{CellRead}
 use Rattle.row.specs.Read.{pointerPlace, dataPlace, headFault, cellAt}

@@ -1,9 +1,7 @@
 -- The last step of a climb.
-use mathlib.Core.Bool.{true, false}
-use mathlib.Core.List.{List, [], _∷_}
-use Prim.Native.Nat.{ℕ, zero, suc, _+_, _<_}
-use lib.Dec.{ltb, eqb}
-use lib.ListN.{length}
+use mathlib.Core.List.{List}
+use Prim.Native.Nat.{ℕ}
+use lib.Dec.{eqb}
 use Rattle.store.specs.Pick.{pick}
 use Rattle.page.specs.Page.{page}
 use Rattle.page.specs.Header.{parentOf}

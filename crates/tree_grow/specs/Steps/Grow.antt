@@ -1,7 +1,6 @@
 -- The other half of entering: a page divides, and its right half is entered above it.
-use mathlib.Core.List.{List, [], _∷_}
-use Prim.Native.Nat.{ℕ, _+_}
-use lib.Dec.{ltb, eqb}
+use mathlib.Core.List.{List}
+use Prim.Native.Nat.{ℕ}
 use Rattle.page.specs.Page.{page}
 use Rattle.page.specs.Pool.{nextPage}
 use Rattle.inner_edit.specs.Edit.{middleKey}

@@ -1,7 +1,5 @@
 -- What an insertion's cut gives its stores.
-use mathlib.Core.List.{List}
-use Prim.Native.Nat.{ℕ, _+_, _-_, _≤_, _<_}
-use lib.Dec.{ltb}
+use Prim.Native.Nat.{ℕ, _+_, _≤_, _<_}
 use Rattle.leaf.specs.declared.place.Cut.{Cut}
 use Rattle.tree_insert.specs.declared.Spot.{Spot}
 use Rattle.page.specs.Header.{headerSize, leafRoom}

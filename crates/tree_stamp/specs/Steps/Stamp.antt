@@ -1,8 +1,7 @@
 -- What a stamp's cut gives its stores.
 use mathlib.Core.Path.{_≡_}
 use mathlib.Core.List.{List}
-use Prim.Native.Nat.{ℕ, _+_, _-_, _≤_, _<_}
-use lib.Dec.{ltb}
+use Prim.Native.Nat.{ℕ, _+_, _≤_, _<_}
 use Rattle.row.specs.Read.{cellAt}
 use Rattle.row.specs.declared.Stamp.{Stamp}
 use Rattle.row.specs.declared.read.CellRead.{CellRead}

@@ -1,8 +1,7 @@
 -- What a lookup gives the stamp that follows it.
 use mathlib.Core.Path.{_≡_}
 use mathlib.Core.List.{List, _∷_, _++_}
-use Prim.Native.Nat.{ℕ, _+_, _<_}
-use lib.Dec.{ltb}
+use Prim.Native.Nat.{ℕ, _<_}
 use Rattle.page.specs.Page.{page}
 use Rattle.row.specs.declared.Cell.{Cell}
 use Rattle.leaf.specs.Cells.{cells, judgeLeaf}

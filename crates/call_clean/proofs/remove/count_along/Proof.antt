@@ -4,16 +4,16 @@ use mathlib.Core.Path.{_≡_, refl, ap, _∙_}
 use Prim.Native.Nat.{_+_, _*_, _≤_}
 use native.Mathlib.Omega.{arith}
 use Rattle.tree.specs.Chain.{along}
-use Rattle.call_clean.specs.Remove.{lookRun, toldCount, countAlong}
+use Rattle.call_clean.specs.Remove.{lookHeld, toldCount, countAlong}
 use Rattle.tree.proofs.Ways.{along-again, along-unused, along-bad, along-last, along-end, along-on}
-use Rattle.call_clean.proofs.Counting.{run-is, run-broken, run-stop, run-go}
+use Rattle.call_clean.proofs.Counting.{run-fits, run-broken, run-stop, run-go}
 use borrow.Author.Needs.{needs}
 use Rattle.call_clean.proofs.remove.count_along.Statement.{statement}
 use Rattle.call_clean.proofs.remove.count_along.Tie as tie
 
 abbrev Inv-loop : tie.InvT-loop
 Inv-loop pool used first key p₀ count₀ left₀ p count left =
-    (along (lookRun key) used left count p pool ≡ along (lookRun key) used used 0 first pool) × (count + 65535 * left ≤ 65535 * used)
+    (along (lookHeld key) used left count p pool ≡ along (lookHeld key) used used 0 first pool) × (count + 65535 * left ≤ 65535 * used)
 
 abbrev μ-loop : tie.MeasureT-loop
 μ-loop pool used first key p₀ count₀ left₀ p count left = left
@@ -43,7 +43,7 @@ returns-2 c =
     let found = c .before .before .before in
     let here = found .before in
     let walk = here .before .before .before in
-    ap toldCount (along-bad _ _ _ _ _ (search needs) (here .page-of .ensures .0) _ (search needs) (run-broken _ (found .run-in-leaf .ensures) (c .before .f .given .1)) ∙ walk .loop .inv .0)
+    ap toldCount (along-bad _ _ _ _ _ (search needs) (here .page-of .ensures .0) _ (search needs) (run-broken _ _ _ (found .run-in-leaf .ensures) _ (c .before .f .given .1)) ∙ walk .loop .inv .0)
 
 enum-known-run : tie.Need-enum-known-run Inv-loop μ-loop
 enum-known-run c = search needs
@@ -56,7 +56,7 @@ add-count c =
     let got = c .before .before .before in
     let found = got .before .before in
     let here = found .before in
-    let run = run-is _ _ _ (here .page-of .ensures .1) (found .run-in-leaf .ensures) (got .run .given .1) in
+    let run = run-fits _ _ _ (found .run-in-leaf .ensures) (got .run .given .1) (here .page-of .ensures .1) in
     omega (arith, run .few)
 
 returns-3 : tie.Need-returns-3 Inv-loop μ-loop
@@ -66,7 +66,7 @@ returns-3 c =
     let found = got .before .before in
     let here = found .before in
     let walk = here .before .before .before in
-    ap toldCount (along-last _ _ _ _ _ (search needs) (here .page-of .ensures .0) _ (search needs) (run-stop _ (found .run-in-leaf .ensures) (got .run .given .1) (search needs)) ∙ walk .loop .inv .0)
+    ap toldCount (along-last _ _ _ _ _ (search needs) (here .page-of .ensures .0) _ (search needs) (run-stop _ _ _ (found .run-in-leaf .ensures) (got .run .given .1) _ (search needs)) ∙ walk .loop .inv .0)
 
 returns-4 : tie.Need-returns-4 Inv-loop μ-loop
 unfolding countAlong
@@ -76,7 +76,7 @@ returns-4 c =
     let found = got .before .before in
     let here = found .before in
     let walk = here .before .before .before in
-    let seen = run-go _ (found .run-in-leaf .ensures) (got .run .given .1) (search needs) in
+    let seen = run-go _ _ _ (found .run-in-leaf .ensures) (got .run .given .1) _ (search needs) in
     ap toldCount (along-end _ _ _ _ _ (search needs) (here .page-of .ensures .0) _ (search needs) seen (next .get-next-leaf .ensures) (search needs) ∙ walk .loop .inv .0)
 
 sub-left : tie.Need-sub-left Inv-loop μ-loop
@@ -92,8 +92,8 @@ loop-again c =
     let found = got .before .before in
     let here = found .before in
     let walk = here .before .before .before in
-    let run = run-is _ _ _ (here .page-of .ensures .1) (found .run-in-leaf .ensures) (got .run .given .1) in
-    let seen = run-go _ (found .run-in-leaf .ensures) (got .run .given .1) (search needs) in
+    let run = run-fits _ _ _ (found .run-in-leaf .ensures) (got .run .given .1) (here .page-of .ensures .1) in
+    let seen = run-go _ _ _ (found .run-in-leaf .ensures) (got .run .given .1) _ (search needs) in
     (along-on _ _ _ _ _ (search needs) (here .page-of .ensures .0) _ (search needs) seen (next .get-next-leaf .ensures) (search needs) ∙ walk .loop .inv .0, omega (arith, run .few))
 
 structural-fault-requires-2 : tie.Need-structural-fault-requires-2 Inv-loop μ-loop

@@ -1,23 +1,26 @@
 -- `call_clean::remove::remove_along` meets its contract: what is left to do, from the pool as it is now, gives what all of it gives.
 -- Assumes nothing.
-use mathlib.Core.Path.{_≡_, refl, _∙_}
+use mathlib.Core.Path.{_≡_, refl, sym, _∙_}
 use lib.ListN.{length}
+use Rattle.store.specs.Le.{AreBytes}
 use Rattle.page.proofs.PageLaws.{lent-page}
+use Rattle.leaf.proofs.Running.{run-bad}
 use Rattle.call_clean.specs.Remove.{removedAlong}
-use Rattle.call_clean.proofs.Counting.{run-is}
-use Rattle.call_clean.proofs.Storing.{page-made, remove-none, remove-unused, remove-bad, remove-last, remove-end, remove-on}
+use Rattle.call_clean.proofs.Counting.{run-there, run-fits}
+use Rattle.call_clean.proofs.Storing.{run-made, remove-none, remove-unused, remove-bad, remove-last, remove-end, remove-on}
 use borrow.Author.Needs.{needs}
 use Rattle.call_clean.proofs.remove.remove_along.Statement.{statement}
 use Rattle.call_clean.proofs.remove.remove_along.Tie as tie
 
 abbrev Inv-loop : tie.InvT-loop
-Inv-loop pool₀ used first key p₀ left₀ pool p left = (length pool ≡ length pool₀) × (removedAlong pool used p key left ≡ removedAlong pool₀ used first key used)
+Inv-loop pool₀ used first key p₀ left₀ pool p left =
+    (length pool ≡ length pool₀) × (removedAlong pool used p key left ≡ removedAlong pool₀ used first key used) × AreBytes pool
 
 abbrev μ-loop : tie.MeasureT-loop
 μ-loop pool₀ used first key p₀ left₀ pool p left = left
 
 loop-holds : tie.Need-loop-holds Inv-loop μ-loop
-loop-holds c = (refl, refl)
+loop-holds c = (refl, refl, λ i. (c .slice-known .given i) .fits)
 
 same-length : tie.Need-same-length Inv-loop μ-loop
 same-length c = search needs
@@ -68,7 +71,7 @@ returns-2 : tie.Need-returns-2 Inv-loop μ-loop
 returns-2 c =
     let found = c .before .before in
     let walk = found .before .before .before .before .before .before .before .before in
-    remove-bad _ _ _ _ (search needs) (rw lent-page at (found .run-in-leaf .ensures)) _ (c .enum-told .given .1) ∙ walk .loop .inv .1
+    remove-bad _ _ _ _ (search needs) _ (run-bad _ _ _ _ (sym (rw lent-page at (found .run-in-leaf .ensures)) ∙ c .enum-told .given .1)) ∙ walk .loop .inv .1
 
 enum-known-run : tie.Need-enum-known-run Inv-loop μ-loop
 enum-known-run c = search needs
@@ -84,8 +87,7 @@ part-take-run-end c = search needs
 
 take-run-requires : tie.Need-take-run-requires Inv-loop μ-loop
 take-run-requires c κs =
-    let run = run-is _ _ _ (search needs) (c .before .before .before .before .run-in-leaf .ensures) (c .before .before .run .given .1) in
-    let w = run .within in
+    let run = run-fits _ _ _ (c .before .before .before .before .run-in-leaf .ensures) (c .before .before .run .given .1) (search needs) in
     search needs
 
 same-length-3 : tie.Need-same-length-3 Inv-loop μ-loop
@@ -98,7 +100,8 @@ returns-3 c =
     let found = got .before .before in
     let next = found .before .before .before in
     let walk = next .before .before .before .before .before in
-    remove-last _ _ _ _ (search needs) (rw lent-page at (found .run-in-leaf .ensures)) (got .run .given .1) (page-made _ _ (rw lent-page at (cut .take-run .ensures))) _ (search needs) (search needs) ∙ walk .loop .inv .1
+    let run = run-there _ _ _ (rw lent-page at (found .run-in-leaf .ensures)) (got .run .given .1) in
+    remove-last _ _ _ _ (search needs) (run .judged) (run-made _ _ _ (walk .loop .inv .2) (search needs) run (rw lent-page at (cut .take-run .ensures))) (run .last) _ (search needs) (search needs) ∙ walk .loop .inv .1
 
 same-length-4 : tie.Need-same-length-4 Inv-loop μ-loop
 same-length-4 c = search needs
@@ -110,7 +113,8 @@ returns-4 c =
     let found = got .before .before in
     let next = found .before .before .before in
     let walk = next .before .before .before .before .before in
-    remove-end _ _ _ _ (search needs) (rw lent-page at (found .run-in-leaf .ensures)) (got .run .given .1) (page-made _ _ (rw lent-page at (cut .take-run .ensures))) (rw lent-page at (next .get-next-leaf .ensures)) _ (search needs) (search needs) (search needs) ∙ walk .loop .inv .1
+    let run = run-there _ _ _ (rw lent-page at (found .run-in-leaf .ensures)) (got .run .given .1) in
+    remove-end _ _ _ _ (search needs) (run .judged) (run-made _ _ _ (walk .loop .inv .2) (search needs) run (rw lent-page at (cut .take-run .ensures))) (run .last) (rw lent-page at (next .get-next-leaf .ensures)) _ (search needs) (search needs) (search needs) ∙ walk .loop .inv .1
 
 sub-left : tie.Need-sub-left Inv-loop μ-loop
 sub-left c = search needs
@@ -125,7 +129,8 @@ loop-again c =
     let found = got .before .before in
     let next = found .before .before .before in
     let walk = next .before .before .before .before .before in
-    (search needs, remove-on _ _ _ _ (search needs) (rw lent-page at (found .run-in-leaf .ensures)) (got .run .given .1) (page-made _ _ (rw lent-page at (cut .take-run .ensures))) (rw lent-page at (next .get-next-leaf .ensures)) _ (search needs) (search needs) (search needs) ∙ walk .loop .inv .1)
+    let run = run-there _ _ _ (rw lent-page at (found .run-in-leaf .ensures)) (got .run .given .1) in
+    (search needs, remove-on _ _ _ _ (search needs) (run .judged) (run-made _ _ _ (walk .loop .inv .2) (search needs) run (rw lent-page at (cut .take-run .ensures))) (run .last) (rw lent-page at (next .get-next-leaf .ensures)) _ (search needs) (search needs) (search needs) ∙ walk .loop .inv .1, λ i. (c .before .before .slice-known2 .given i) .fits)
 
 same-length-5 : tie.Need-same-length-5 Inv-loop μ-loop
 same-length-5 c = search needs
