@@ -24,7 +24,7 @@ module _ (s : List ℕ) (st : State) (key : ℕ) {a : Bool} (pool : a ≡ goodPo
   unfolding removeRun
   remove-pool t u = rw (sym pool ∙ t, u)
 
-  module _ (good : a ≡ true) {d : Descent} (way : d ≡ descendOf 3 (Route.Search key) (st .used) (st .root) s) where
+  module _ (good : a ≡ true) {d : Descent} (way : d ≡ descendOf s (st .used) (st .root) (Route.Search key) 3) where
     pub remove-lost : {f : Fault} {r : CountedAt} → d ≡ Descent.Bad f → r ≡ CountedAt.Refused (faulty f) → ended r s ≡ removeRun s st key
     unfolding removeRun
     remove-lost e u = rw (sym pool ∙ good, sym way ∙ e, u)
@@ -55,7 +55,7 @@ module _ (s : List ℕ) (st : State) (bound : ℕ) (ss : Statuses) {a : Bool} (p
     unfolding vacuumRun
     vacuum-statuses t u = rw (sym pool ∙ good, sym list ∙ t, u)
 
-    module _ (list-good : b ≡ true) {d : Descent} (way : d ≡ descendOf 3 Route.First (st .used) (st .root) s) where
+    module _ (list-good : b ≡ true) {d : Descent} (way : d ≡ descendOf s (st .used) (st .root) Route.First 3) where
       pub vacuum-lost : {f : Fault} {r : CountedAt} → d ≡ Descent.Bad f → r ≡ CountedAt.Refused (faulty f) → ended r s ≡ vacuumRun s st ss bound
       unfolding vacuumRun
       vacuum-lost e u = rw (sym pool ∙ good, sym list ∙ list-good, sym way ∙ e, u)

@@ -43,7 +43,7 @@ toldCount (ok n) = ChainCount.Ok n
 toldCount (ill f) = ChainCount.Bad f
 
 unfoldable pub countAlong : List ℕ → (used p key : ℕ) → ChainCount
-countAlong s used p key = toldCount (along (lookHeld key) used used 0 p s)
+countAlong s used p key = toldCount (along s used p (lookHeld key) used 0)
 
 -- ---- the stores
 
@@ -72,7 +72,7 @@ unfoldable pub removeRun : List ℕ → State → (key : ℕ) → Ended CountedA
 removeRun s st key =
     unless (goodPool s st) (notCleared s (refusalOf BadPool))
     (onLeaf (λ p. onCount (λ n. ended (CountedAt.Done n) (removedAlong s (st .used) p key (st .used))) (λ f. notCleared s (faulty f)) (countAlong s (st .used) p key)) (λ f. notCleared s (faulty f))
-    (descendOf 3 (Route.Search key) (st .used) (st .root) s))
+    (descendOf s (st .used) (st .root) (Route.Search key) 3))
 
 unfoldable pub removeCall : List ℕ → State → (key : ℕ) → Ended (Outcome ℕ)
 removeCall s st key = hideCountEnd (removeRun s st key)

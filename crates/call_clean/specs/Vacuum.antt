@@ -32,7 +32,7 @@ toldJudged (ok n) = ChainJudged.Ok
 toldJudged (ill f) = ChainJudged.Bad f
 
 unfoldable pub judgedAlong : List ℕ → (used p : ℕ) → ChainJudged
-judgedAlong s used p = toldJudged (along lookLeaf used used 0 p s)
+judgedAlong s used p = toldJudged (along s used p lookLeaf used 0)
 
 -- ---- the stores
 
@@ -65,7 +65,7 @@ vacuumRun s st ss bound =
     (onLeaf
     (λ p. onChainJudged (droppedEnd (vacuumedAlong s (st .used) p (lookup ss) bound (st .used) 0)) (λ f. notCleared s (faulty f)) (judgedAlong s (st .used) p))
     (λ f. notCleared s (faulty f))
-    (descendOf 3 Route.First (st .used) (st .root) s)))
+    (descendOf s (st .used) (st .root) Route.First 3)))
 
 unfoldable pub vacuumCall : List ℕ → State → Statuses → (bound : ℕ) → Ended (Outcome ℕ)
 vacuumCall s st ss bound = hideCountEnd (vacuumRun s st ss bound)

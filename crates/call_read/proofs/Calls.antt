@@ -134,6 +134,6 @@ module _ (s : List ℕ) (state : State) {a : Bool} (pool : a ≡ goodPool s stat
   unfolding checkCall
   check-pool t = rw (sym pool ∙ t)
 
-  pub check-told : {b : Bool} → a ≡ true → b ≡ isWellFormed (state .used) (state .root) s → done b ≡ checkCall s state
+  pub check-told : {b : Bool} → a ≡ true → b ≡ isWellFormed s (state .used) (state .root) → done b ≡ checkCall s state
   unfolding checkCall
   check-told t e = rw (sym pool ∙ t, e)

@@ -100,14 +100,14 @@ pub record Alone (used root : ℕ) (s : List ℕ) : Type 0 where
   pub empty : Empty (page root s)
 
 module _ {used root : ℕ} {s : List ℕ} (t : Alone used root s) where
-  pub comes-to : (route : Route) → descendOf 3 route used root s ≡ Descent.Leaf root
+  pub comes-to : (route : Route) → descendOf s used root route 3 ≡ Descent.Leaf root
   comes-to route = sym (way-leaf route used root s (t .in-use) refl refl 3 (t .empty .leaf))
 
   -- a walk ends where it starts, with what it started with
-  stays : {A : Type 0} (look : A → ℕ → List ℕ → Seen A) (a : A) → look a root (page root s) ≡ go a → along look used used a root s ≡ ok a
+  stays : {A : Type 0} (look : A → ℕ → List ℕ → Seen A) (a : A) → look a root (page root s) ≡ go a → along s used root look used a ≡ ok a
   stays look a e = sym (along-end look used a root s (t .in-use) refl used (omega (arith, t .in-use)) e refl (t .empty .next))
 
-  is-well : isWellFormed used root s ≡ true
+  is-well : isWellFormed s used root ≡ true
   unfolding isWellFormed checkOf soundLeaf cellsWithin foldCells
   is-well =
       let first : isFirst (checkOf 0 used s 0 root 0 4294967295 0) ≡ true =

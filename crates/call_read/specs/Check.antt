@@ -10,4 +10,4 @@ use Rattle.call_answers.specs.Names.{BadPool, unless}
 
 -- 1
 unfoldable pub checkCall : List ℕ → State → Outcome Bool
-checkCall s st = unless (goodPool s st) (refused BadPool) (done (isWellFormed (st .used) (st .root) s))
+checkCall s st = unless (goodPool s st) (refused BadPool) (done (isWellFormed s (st .used) (st .root)))

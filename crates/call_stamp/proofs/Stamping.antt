@@ -77,7 +77,7 @@ target-met used s p c e m = rw e (m, refl)
 
 -- ---- what a judgement that is ok says
 
-ok-planned : (st : State) (t : Target) (s : List ℕ) → stampPlan st t s .ok ≡ true → stampPlan st t s ≡ planned (stampPlan st t s .plan)
+ok-planned : (st : State) (t : Target) (s : List ℕ) → stampPlan s st t .ok ≡ true → stampPlan s st t ≡ planned (stampPlan s st t .plan)
 unfolding stampPlan
 ok-planned st t s = plan-told st (t .leaf) _ _ s
 
@@ -85,25 +85,25 @@ module _ (s : List ℕ) (st : State) (t : Target) (good : goodPool s st ≡ true
     (is : t ≡ targetOf (t .leaf) (t .cell) (page (t .leaf) s)) where
   at-ok : (test : ChainTest) → markingAt s st test t .ok ≡ true → Stampable s st (markingAt s st test t)
   unfolding markingAt
-  at-ok test h = by-ok (stampPlan st t s .ok) (stampPlan st t s .plan) (roomOf (length s / 4096) st (bytesStamped t) (stampPlan st t s .plan)) refl refl (λ q. ok-planned st t s q) test h
+  at-ok test h = by-ok (stampPlan s st t .ok) (stampPlan s st t .plan) (roomOf (length s / 4096) st (bytesStamped t) (stampPlan s st t .plan)) refl refl (λ q. ok-planned st t s q) test h
     where
-      by-room : (plan : Planned) (n : ℕ) → roomOf (length s / 4096) st (bytesStamped t) plan ≡ n → stampPlan st t s ≡ planned plan → (b : Bool) → eqb n 0 ≡ b
+      by-room : (plan : Planned) (n : ℕ) → roomOf (length s / 4096) st (bytesStamped t) plan ≡ n → stampPlan s st t ≡ planned plan → (b : Bool) → eqb n 0 ≡ b
           → pick b (marking t plan) (notMarking n noFault) .ok ≡ true → Stampable s st (pick b (marking t plan) (notMarking n noFault))
       by-room plan n r e true q u = record { pool = good; met = met; is = is; plans = e; fits = r ∙ eqb-true n 0 q }
       by-room plan n r e false q u = absurd (let z : _≡_ {A = ℕ} 0 1 = cc in omega arith)
 
-      by-test : (plan : Planned) (n : ℕ) → roomOf (length s / 4096) st (bytesStamped t) plan ≡ n → stampPlan st t s ≡ planned plan → (y : ChainTest)
+      by-test : (plan : Planned) (n : ℕ) → roomOf (length s / 4096) st (bytesStamped t) plan ≡ n → stampPlan s st t ≡ planned plan → (y : ChainTest)
           → onTest (notMarking 7 noFault) (pick (eqb n 0) (marking t plan) (notMarking n noFault)) (notMarking 2) y .ok ≡ true
           → Stampable s st (onTest (notMarking 7 noFault) (pick (eqb n 0) (marking t plan) (notMarking n noFault)) (notMarking 2) y)
       by-test plan n r e (ChainTest.Ok true) u = absurd (let z : _≡_ {A = ℕ} 0 1 = cc in omega arith)
       by-test plan n r e (ChainTest.Ok false) u = by-room plan n r e (eqb n 0) refl u
       by-test plan n r e (ChainTest.Bad f) u = absurd (let z : _≡_ {A = ℕ} 0 1 = cc in omega arith)
 
-      by-ok : (b : Bool) (plan : Planned) (n : ℕ) → stampPlan st t s .ok ≡ b → roomOf (length s / 4096) st (bytesStamped t) plan ≡ n
-          → (stampPlan st t s .ok ≡ true → stampPlan st t s ≡ planned plan) → (y : ChainTest)
-          → pick b (onTest (notMarking 7 noFault) (pick (eqb n 0) (marking t plan) (notMarking n noFault)) (notMarking 2) y) (notMarking 2 (stampPlan st t s .fault)) .ok ≡ true
+      by-ok : (b : Bool) (plan : Planned) (n : ℕ) → stampPlan s st t .ok ≡ b → roomOf (length s / 4096) st (bytesStamped t) plan ≡ n
+          → (stampPlan s st t .ok ≡ true → stampPlan s st t ≡ planned plan) → (y : ChainTest)
+          → pick b (onTest (notMarking 7 noFault) (pick (eqb n 0) (marking t plan) (notMarking n noFault)) (notMarking 2) y) (notMarking 2 (stampPlan s st t .fault)) .ok ≡ true
           → Stampable s st
-          (pick b (onTest (notMarking 7 noFault) (pick (eqb n 0) (marking t plan) (notMarking n noFault)) (notMarking 2) y) (notMarking 2 (stampPlan st t s .fault)))
+          (pick b (onTest (notMarking 7 noFault) (pick (eqb n 0) (marking t plan) (notMarking n noFault)) (notMarking 2) y) (notMarking 2 (stampPlan s st t .fault)))
       by-ok true plan n q r e y u = by-test plan n r (e q) y u
       by-ok false plan n q r e y u = absurd (let z : _≡_ {A = ℕ} 0 1 = cc in omega arith)
 

@@ -45,8 +45,8 @@ module _ (t : Told (List Row)) (out : List ℕ) {r : ChainSize} {n : ℕ} (said 
       rw (g .0, le-leb (length (records (rowsTold t))) (length out) (omega arith), e, g .1)
 
 -- from the root on
-module _ (which : Which) (used root : ℕ) (s out : List ℕ) {route : Route} {d : Descent} (by-route : route ≡ routeOf which) (way : d ≡ descendOf 3 route used root s) where
-  down : descendOf 3 (routeOf which) used root s ≡ d
+module _ (which : Which) (used root : ℕ) (s out : List ℕ) {route : Route} {d : Descent} (by-route : route ≡ routeOf which) (way : d ≡ descendOf s used root route 3) where
+  down : descendOf s used root (routeOf which) 3 ≡ d
   down = sym (way ∙ rw by-route)
 
   pub tree-bad : {f : Fault} → d ≡ Descent.Bad f → written (Listing.Bad f) out ≡ listTree s used root which out

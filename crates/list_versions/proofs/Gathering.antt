@@ -48,7 +48,7 @@ module _ {which : Which} {p : ℕ} {pg : List ℕ} {from count : ℕ} {last : Bo
 
 pub record Measured (which : Which) (used first : ℕ) (s : List ℕ) (p size left : ℕ) : Type 0 where
   pub got : List Row
-  pub same : along (lookRows which) used left got p s ≡ along (lookRows which) used used [] first s
+  pub same : along s used p (lookRows which) left got ≡ along s used first (lookRows which) used []
   pub size-is : size ≡ length (records got)
   pub room : size + left * 8192 ≤ used * 8192
 
@@ -107,8 +107,8 @@ record Met (which : Which) (p : ℕ) (pg : List ℕ) (rs all : List Row) : Type 
   within : length (records (rs ++ wanted which (rows pg))) ≤ length (records all)
 
 module _ (which : Which) (used : ℕ) (s : List ℕ) (all : List Row) where
-  walk-met : (m p : ℕ) (rs : List Row) → ((p : ℕ) (rs : List Row) → along (lookRows which) used m rs p s ≡ ok all → length (records rs) ≤ length (records all))
-      → along (lookRows which) used (suc m) rs p s ≡ ok all → Met which p (page p s) rs all
+  walk-met : (m p : ℕ) (rs : List Row) → ((p : ℕ) (rs : List Row) → along s used p (lookRows which) m rs ≡ ok all → length (records rs) ≤ length (records all))
+      → along s used p (lookRows which) (suc m) rs ≡ ok all → Met which p (page p s) rs all
   unfolding along
   walk-met m p rs ih h = by-used (ltb p used) h
     where
@@ -116,9 +116,9 @@ module _ (which : Which) (used : ℕ) (s : List ℕ) (all : List Row) where
       x = rs ++ wanted which (rows (page p s))
 
       rest : List Row → Told (List Row)
-      rest b = pick (eqb (nextLeaf (page p s)) 0) (ok b) (along (lookRows which) used m b (nextLeaf (page p s)) s)
+      rest b = pick (eqb (nextLeaf (page p s)) 0) (ok b) (along s used (nextLeaf (page p s)) (lookRows which) m b)
 
-      by-next : (b : Bool) → pick b (ok x) (along (lookRows which) used m x (nextLeaf (page p s)) s) ≡ ok all → length (records x) ≤ length (records all)
+      by-next : (b : Bool) → pick b (ok x) (along s used (nextLeaf (page p s)) (lookRows which) m x) ≡ ok all → length (records x) ≤ length (records all)
       by-next true q = let e : x ≡ all = cc in rw e (omega arith)
       by-next false q = ih (nextLeaf (page p s)) x q
 
@@ -135,14 +135,14 @@ module _ (which : Which) (used : ℕ) (s : List ℕ) (all : List Row) where
       by-used true q = by-judged (judgeLeaf p (page p s)) refl q
       by-used false q = absurd (let z : _≡_ {A = ℕ} 0 1 = cc in omega arith)
 
-  walk-grows : (m p : ℕ) (rs : List Row) → along (lookRows which) used m rs p s ≡ ok all → length (records rs) ≤ length (records all)
+  walk-grows : (m p : ℕ) (rs : List Row) → along s used p (lookRows which) m rs ≡ ok all → length (records rs) ≤ length (records all)
   unfolding along
   walk-grows zero p rs h = absurd (let z : _≡_ {A = ℕ} 0 1 = cc in omega arith)
   walk-grows (suc m) p rs h =
       let w = walk-met m p rs (walk-grows m) h in
       omega (arith, w .within, length-more rs (wanted which (rows (page p s))))
 
-  walk-meets : (m p : ℕ) (rs : List Row) → 0 < m → along (lookRows which) used m rs p s ≡ ok all → Met which p (page p s) rs all
+  walk-meets : (m p : ℕ) (rs : List Row) → 0 < m → along s used p (lookRows which) m rs ≡ ok all → Met which p (page p s) rs all
   walk-meets zero p rs z h = absurd (omega arith)
   walk-meets (suc m) p rs z h = walk-met m p rs (walk-grows m) h
 
@@ -150,7 +150,7 @@ module _ (which : Which) (used : ℕ) (s : List ℕ) (all : List Row) where
 
 pub record Copied (which : Which) (used first : ℕ) (s out₀ out : List ℕ) (p o left : ℕ) : Type 0 where
   pub got : List Row
-  pub same : along (lookRows which) used left got p s ≡ along (lookRows which) used used [] first s
+  pub same : along s used p (lookRows which) left got ≡ along s used first (lookRows which) used []
   pub end-is : o ≡ length (records got)
   pub out-is : out ≡ put 0 (records got) out₀
   pub long : length out ≡ length out₀
@@ -167,7 +167,7 @@ module _ (which : Which) (used first : ℕ) (s out₀ out : List ℕ) (p o left 
   abbrev all : List Row
   all = rowsTold (rowsAlong s used first which)
 
-  walks : along (lookRows which) used left (h .got) p s ≡ ok all
+  walks : along s used p (lookRows which) left (h .got) ≡ ok all
   unfolding rowsAlong
   walks = h .same ∙ good
 
@@ -195,7 +195,7 @@ module _ (which : Which) (used first : ℕ) (s out₀ out : List ℕ) (p o left 
           ∙ rw (gave .same, h .out-is, records-append (h .got) (wanted which (rows pg)))
           (put-after-at 0 o (records (h .got)) (records (wanted which (rows pg))) out₀ (omega arith) (omega (arith, h .end-is)))
 
-      finished : ok (h .got ++ wanted which (rows pg)) ≡ along (lookRows which) used left (h .got) p s → out₁ ≡ put 0 (records all) out₀
+      finished : ok (h .got ++ wanted which (rows pg)) ≡ along s used p (lookRows which) left (h .got) → out₁ ≡ put 0 (records all) out₀
       finished e = joined ∙ ap (λ (rs : List Row). put 0 (records rs) out₀) (ap rowsTold (e ∙ walks))
 
       pub copied-last : a .last ≡ true → out₁ ≡ put 0 (records (rowsTold (rowsAlong s used first which))) out₀

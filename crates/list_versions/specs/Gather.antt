@@ -26,4 +26,4 @@ lookRows w rs p pg =
 
 -- the rows along the chain from page p on, or the first fault
 unfoldable pub rowsAlong : List ℕ → (used p : ℕ) → Which → Told (List Row)
-rowsAlong s used p w = along (lookRows w) used used [] p s
+rowsAlong s used p w = along s used p (lookRows w) used []

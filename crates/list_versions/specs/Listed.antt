@@ -23,4 +23,4 @@ routeOf (Which.Key key) = Route.Search key
 
 unfoldable pub listTree : (s : List ℕ) → (used root : ℕ) → Which → (out : List ℕ) → Written Listing
 listTree s used root w out =
-    onLeaf (λ p. listedRows (rowsAlong s used p w) out) (λ f. written (Listing.Bad f) out) (descendOf 3 (routeOf w) used root s)
+    onLeaf (λ p. listedRows (rowsAlong s used p w) out) (λ f. written (Listing.Bad f) out) (descendOf s used root (routeOf w) 3)

@@ -33,20 +33,20 @@ Judging {A} look f s = (a : A) (p : ℕ) → look a p (page p s) ≡ onJudged (�
 
 -- R may speak of the pages that are left to meet
 module _ {A B : Type 0} (look : A → ℕ → List ℕ → Seen A) (view : B → ℕ → List ℕ → Seen B) (f : ℕ → A → A) (g : ℕ → B → B) (used : ℕ) (s : List ℕ) (ja : Judging look f s) (jb : Judging view g s) (R : ℕ → A → B → Type 0) (Q : A → B → Type 0) (last : (m : ℕ) (a : A) (b : B) → R m a b → Q a b) (keeps : (m p : ℕ) (a : A) (b : B) → p < used → R (suc m) a b → R m (f p a) (g p b)) where
-  pub in-step : (m p : ℕ) (a : A) (b : B) → R m a b → Alike Q (along look used m a p s) (along view used m b p s)
+  pub in-step : (m p : ℕ) (a : A) (b : B) → R m a b → Alike Q (along s used p look m a) (along s used p view m b)
   unfolding along
   in-step zero p a b r = refl
   in-step (suc m) p a b r =
       rw (ja a p, jb b p) (by-use (ltb p used) refl (judgeLeaf p (page p s)) (eqb (nextLeaf (page p s)) 0) (in-step m (nextLeaf (page p s)) (f p a) (g p b)))
     where
       by-use : (t : Bool) → ltb p used ≡ t → (j : Judged) (z : Bool)
-          → (R m (f p a) (g p b) → Alike Q (along look used m (f p a) (nextLeaf (page p s)) s) (along view used m (g p b) (nextLeaf (page p s)) s))
+          → (R m (f p a) (g p b) → Alike Q (along s used (nextLeaf (page p s)) look m (f p a)) (along s used (nextLeaf (page p s)) view m (g p b)))
           → Alike Q
           (pick t
-          (onSeen (λ d. ok d) (λ d. pick z (ok d) (along look used m d (nextLeaf (page p s)) s)) (λ h. ill h) (onJudged (λ e. go (f p a)) (λ h. broken h) j))
+          (onSeen (λ d. ok d) (λ d. pick z (ok d) (along s used (nextLeaf (page p s)) look m d)) (λ h. ill h) (onJudged (λ e. go (f p a)) (λ h. broken h) j))
           (ill (structural p)))
           (pick t
-          (onSeen (λ d. ok d) (λ d. pick z (ok d) (along view used m d (nextLeaf (page p s)) s)) (λ h. ill h) (onJudged (λ e. go (g p b)) (λ h. broken h) j))
+          (onSeen (λ d. ok d) (λ d. pick z (ok d) (along s used (nextLeaf (page p s)) view m d)) (λ h. ill h) (onJudged (λ e. go (g p b)) (λ h. broken h) j))
           (ill (structural p)))
       by-use false t j z ih = refl
       by-use true t (Judged.Bad h) z ih = refl
@@ -68,7 +68,7 @@ module _ {B : Type 0} (look : B → ℕ → List ℕ → Seen B) (g : ℕ → B 
       by-read (CellRead.Got c) e ih =
           rw append-assoc at (ih c (keeps p c rs b h (ap (cellAt (page p s)) (cell-placed (page p s) at c e .here) ∙ e) k))
 
-  pub rows-beside : (p : ℕ) (b : B) → P [] b → Alike P (chainRows s used p) (along look used used b p s)
+  pub rows-beside : (p : ℕ) (b : B) → P [] b → Alike P (chainRows s used p) (along s used p look used b)
   unfolding chainRows
   rows-beside p b k =
       in-step lookAll look (λ q rs. rs ++ rows (page q s)) (λ q d. foldCells (g q) d (cells (page q s))) used s (λ a q. refl) jb (λ m. P) P (λ m rs d h. h)

@@ -79,7 +79,7 @@ judging-bound s b p = by-judged (judgeLeaf p (page p s))
 pub along-few : (used p : ℕ) (s : List ℕ) {b : Bound} → boundAlong s used p ≡ ChainBound.Ok b → b .size ≤ used * 8192
 unfolding boundAlong
 along-few used p s {b} e =
-    by-told (along lookBound used used startBound p s) e
+    by-told (along s used p lookBound used startBound) e
     (in-step lookBound lookBound (λ q a. foldCells boundCell a (cells (page q s))) (λ q a. foldCells boundCell a (cells (page q s))) used s (judging-bound s) (judging-bound s)
     (λ m a d. a .size + m * 8192 ≤ used * 8192) (λ a d. a .size ≤ used * 8192) (λ m a d h. omega arith) (λ m q a d h k. omega (arith, fold-more q s a)) used p startBound startBound (omega arith))
   where

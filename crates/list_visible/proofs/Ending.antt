@@ -98,7 +98,7 @@ module _ (sn : Snapshot) (st : ℕ → ℕ) (used first : ℕ) (s : List ℕ) (B
 
 -- ---- from the root
 
-module _ (sn : Snapshot) (st : ℕ → ℕ) (used root : ℕ) (s out : List ℕ) {d : Descent} (said : d ≡ descendOf 3 Route.First used root s) where
+module _ (sn : Snapshot) (st : ℕ → ℕ) (used root : ℕ) (s out : List ℕ) {d : Descent} (said : d ≡ descendOf s used root Route.First 3) where
   pub tree-bad : {f : Fault} → d ≡ Descent.Bad f → written (Listing.Bad f) out ≡ scanTree s used root sn st out
   unfolding scanTree
   tree-bad e = rw (sym said ∙ e)

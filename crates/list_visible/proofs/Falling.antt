@@ -85,22 +85,22 @@ module _ (s : List ℕ) (B : AreBytes s) (used : ℕ) (room : used * 4096 ≤ le
         falls = rw (falling-snoc 0 rs r, k .falls, k .last);
       }
 
-  bounds : (p : ℕ) → Alike Bounds (chainRows s used p) (along lookBound used used startBound p s)
+  bounds : (p : ℕ) → Alike Bounds (chainRows s used p) (along s used p lookBound used startBound)
   unfolding lastOf records falling
   bounds p = rows-beside lookBound (λ q b c. boundCell b c) used s (judging-bound s) Bounds bounds-more p startBound (record { last = refl; size = refl; falls = refl })
 
 pub bound-tells : BoundTells
 unfolding boundAlong
-bound-tells used p s rs B room e = by-told (along lookBound used used startBound p s) refl (rw e at (bounds s B used room p))
+bound-tells used p s rs B room e = by-told (along s used p lookBound used startBound) refl (rw e at (bounds s B used room p))
   where
-    by-told : (t : Told Bound) → along lookBound used used startBound p s ≡ t → Alike (Bounds s B used room) (ok rs) t → BoundIs used p s rs
+    by-told : (t : Told Bound) → along s used p lookBound used startBound ≡ t → Alike (Bounds s B used room) (ok rs) t → BoundIs used p s rs
     by-told (ok b) q k = record { bound = b; told = ap toldBound q; size = k .size; falls = k .falls }
     by-told (ill f) q k = absurd k
 
 pub faults-agree : FaultsAgree
 unfolding boundAlong
 faults-agree used p s f e =
-    by-told (along lookBound used used startBound p s)
+    by-told (along s used p lookBound used startBound)
     (rw e at (rows-beside lookBound (λ q b c. boundCell b c) used s (judging-bound s) (λ rs b. Unit) (λ q c rs b h r k. tt) p startBound tt))
   where
     by-told : (t : Told Bound) → Alike (λ (rs : List Row) (b : Bound). Unit) (ill f) t → toldBound t ≡ ChainBound.Bad f

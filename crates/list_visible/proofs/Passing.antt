@@ -72,7 +72,7 @@ module _ (sn : Snapshot) (st : ℕ → ℕ) (used : ℕ) (s : List ℕ) where
     judged : lookPass s sn st a p (page p s) ≡ go (after p a)
     grows : length (a .bytes) + length (pushedAll sn st p (a .scan) (cells (page p s)) s) ≤ length (e .bytes)
 
-  first-leaf : (m : ℕ) (a : Pass) (p : ℕ) {e : Pass} → along (lookPass s sn st) used m a p s ≡ ok e → FirstLeaf p a e
+  first-leaf : (m : ℕ) (a : Pass) (p : ℕ) {e : Pass} → along s used p (lookPass s sn st) m a ≡ ok e → FirstLeaf p a e
   unfolding along
   first-leaf zero a p q = absurd (let z : _≡_ {A = ℕ} 0 1 = cc in omega arith)
   first-leaf (suc m) a p {e} q =
@@ -83,10 +83,10 @@ module _ (sn : Snapshot) (st : ℕ → ℕ) (used : ℕ) (s : List ℕ) where
 
       by-cases : (t : Bool) → ltb p used ≡ t → (j : Judged) → judgeLeaf p (page p s) ≡ j → (z : Bool)
           → pick t
-          (onSeen (λ b. ok b) (λ b. pick z (ok b) (along (lookPass s sn st) used m b (nextLeaf (page p s)) s)) (λ f. ill f) (onJudged (λ i. go (after p a)) (λ f. broken f) j))
+          (onSeen (λ b. ok b) (λ b. pick z (ok b) (along s used (nextLeaf (page p s)) (lookPass s sn st) m b)) (λ f. ill f) (onJudged (λ i. go (after p a)) (λ f. broken f) j))
           (ill (structural p))
           ≡ ok e
-          → (along (lookPass s sn st) used m (after p a) (nextLeaf (page p s)) s ≡ ok e → FirstLeaf (nextLeaf (page p s)) (after p a) e)
+          → (along s used (nextLeaf (page p s)) (lookPass s sn st) m (after p a) ≡ ok e → FirstLeaf (nextLeaf (page p s)) (after p a) e)
           → FirstLeaf p a e
       by-cases false t j i z u ih = absurd (let z : _≡_ {A = ℕ} 0 1 = cc in omega arith)
       by-cases true t (Judged.Bad f) i z u ih = absurd (let z : _≡_ {A = ℕ} 0 1 = cc in omega arith)
@@ -104,7 +104,7 @@ module _ (sn : Snapshot) (st : ℕ → ℕ) (used : ℕ) (s : List ℕ) where
     -- m pages left to meet, from page p on
     pub record Passing (m p : ℕ) (sc : Scan) : Type 0 where
       pub bytes : List ℕ
-      pub same : along (lookPass s sn st) used m (record { scan = sc; bytes = bytes }) p s ≡ passAlong s used first sn st
+      pub same : along s used p (lookPass s sn st) m (record { scan = sc; bytes = bytes }) ≡ passAlong s used first sn st
       pub size : sc .size ≡ length bytes
       pub waits : Waits (sc .wait) s
       pub small : sc .size + m * 16801792 ≤ used * 16801792
@@ -114,7 +114,7 @@ module _ (sn : Snapshot) (st : ℕ → ℕ) (used : ℕ) (s : List ℕ) where
     passing-start = record { bytes = []; same = refl; size = refl; waits = tt; small = omega arith }
 
     module _ {m p : ℕ} {sc : Scan} (through : Through (passAlong s used first sn st) s) (w : Passing m p sc) where
-      told : along (lookPass s sn st) used m (record { scan = sc; bytes = w .bytes }) p s ≡ ok (through .pass)
+      told : along s used p (lookPass s sn st) m (record { scan = sc; bytes = w .bytes }) ≡ ok (through .pass)
       told = w .same ∙ through .judged
 
       leaf : FirstLeaf p (record { scan = sc; bytes = w .bytes }) (through .pass)
@@ -133,7 +133,7 @@ module _ (sn : Snapshot) (st : ℕ → ℕ) (used : ℕ) (s : List ℕ) where
       unfolding along
       passing-over h = over m h told
         where
-          over : (k : ℕ) → k ≤ 0 → along (lookPass s sn st) used k (record { scan = sc; bytes = w .bytes }) p s ≡ ok (through .pass) → ⊥
+          over : (k : ℕ) → k ≤ 0 → along s used p (lookPass s sn st) k (record { scan = sc; bytes = w .bytes }) ≡ ok (through .pass) → ⊥
           over zero l u = let z : _≡_ {A = ℕ} 0 1 = cc in omega arith
           over (suc k) l u = omega arith
 

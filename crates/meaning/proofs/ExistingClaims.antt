@@ -107,7 +107,7 @@ module _ (g : Grown) (tree : TreeIn g alone) where
   unfolding besideOf foldCells
   fits = rw (one .are) (le-ltb 4084 (one .cell .next - 12 + longer (one .cell)) (omega (arith, ends)))
 
-  plans : stampPlan (g .state) (targetOf 0 (one .cell) pg) (g .pool) ≡ planned (fitting (pathOf (0 ∷ [])))
+  plans : stampPlan (g .pool) (g .state) (targetOf 0 (one .cell) pg) ≡ planned (fitting (pathOf (0 ∷ [])))
   unfolding stampPlan
   plans = rw fits (leaf-planned g alone tree top 0 (seat ∷ []) refl false (cutStamped (targetOf 0 (one .cell) pg) pg))
 

@@ -82,7 +82,7 @@ module _ (g : Grown) (t : Shape) (tree : TreeIn g t) where
     pub formed-at : WellFormed (view s) (st .root) (st .used) (plug c (leaf p rs))
     formed-at = subst (WellFormed (view s) (st .root) (st .used)) is (tree .formed)
 
-    pub leaf-planned : (over : Bool) (cut : Cut) → leafPlan st p over cut s ≡ planned (planAbove c p over cut s)
+    pub leaf-planned : (over : Bool) (cut : Cut) → leafPlan s st p over cut ≡ planned (planAbove c p over cut s)
     leaf-planned = leafPlan-ok s st c p rs formed-at (climb-leaf s (st .root) (st .used) t (tree .formed) c p rs is)
 
   -- ---- a new version
@@ -104,7 +104,7 @@ module _ (g : Grown) (t : Shape) (tree : TreeIn g t) where
     abbrev pub insertPlanned : (m : ℕ) → Planned
     insertPlanned m = planAbove (way r t .ctx) (way r t .page) (ltb 4084 (bytesWith spotFor m)) (cutWith spotFor m (page (way r t .page) s)) s
 
-    pub insert-planned : (m : ℕ) → insertPlan st spotFor m s ≡ planned (insertPlanned m)
+    pub insert-planned : (m : ℕ) → insertPlan s st spotFor m ≡ planned (insertPlanned m)
     unfolding insertPlan
     insert-planned m = leaf-planned (way r t .ctx) (way r t .page) (way r t .cells) (sym (way-there .back)) _ _
 
@@ -158,7 +158,7 @@ module _ (g : Grown) (t : Shape) (tree : TreeIn g t) where
     abbrev pub stampPlanned : Planned
     stampPlanned = planAbove (here .ctx) p (ltb 4084 (bytesStamped targetFor)) (cutStamped targetFor (page p s)) s
 
-    pub stamp-planned : stampPlan st targetFor s ≡ planned stampPlanned
+    pub stamp-planned : stampPlan s st targetFor ≡ planned stampPlanned
     unfolding stampPlan
     stamp-planned = leaf-planned (here .ctx) p (here .rows) (here .is) _ _
 

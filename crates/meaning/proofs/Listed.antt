@@ -42,7 +42,7 @@ module _ (used root : ℕ) (s : List ℕ) (t : Alone used root s) where
   unfolding judgedAlong
   chain-judged =
       let here : lookLeaf 0 root (page root s) ≡ go 0 = rw (empty-judged (t .empty) root) in
-      let all : along lookLeaf used used 0 root s ≡ ok 0 =
+      let all : along s used root lookLeaf used 0 ≡ ok 0 =
       sym (along-end lookLeaf used 0 root s (t .in-use) refl used (omega (arith, t .in-use)) here refl (t .empty .next)) in
       rw all
 

@@ -50,7 +50,7 @@ check-is = record { yes = λ g t tree. rw (tree .good, formed-yes (g .state .use
     gives : Outcome Bool → Value Bool
     gives o = o .gives
 
-    by-tests : (g : Grown) → AreBytes (g .pool) → (a : Bool) → goodPool (g .pool) (g .state) ≡ a → (b : Bool) → isWellFormed (g .state .used) (g .state .root) (g .pool) ≡ b
+    by-tests : (g : Grown) → AreBytes (g .pool) → (a : Bool) → goodPool (g .pool) (g .state) ≡ a → (b : Bool) → isWellFormed (g .pool) (g .state .used) (g .state .root) ≡ b
         → pick a (done b) (refused 1) ≡ done true → (t : Shape) × TreeIn g t
     by-tests g B true p true q e =
         let f = formed-is (g .state .used) (g .state .root) (g .pool) q in
@@ -59,4 +59,4 @@ check-is = record { yes = λ g t tree. rw (tree .good, formed-yes (g .state .use
     by-tests g B false p b q e = absurd (let w : nothing ≡ value true = ap gives e in let z : _≡_ {A = ℕ} 0 1 = cc in omega arith)
 
     only-tree : (g : Grown) → AreBytes (g .pool) → checkCall (g .pool) (g .state) ≡ done true → (t : Shape) × TreeIn g t
-    only-tree g B e = by-tests g B (goodPool (g .pool) (g .state)) refl (isWellFormed (g .state .used) (g .state .root) (g .pool)) refl e
+    only-tree g B e = by-tests g B (goodPool (g .pool) (g .state)) refl (isWellFormed (g .pool) (g .state .used) (g .state .root)) refl e

@@ -141,7 +141,7 @@ module _ (out : List ℕ) where
 
   list-leaves : (w : Which) (used root : ℕ) (s : List ℕ) → AsWas out (listTree s used root w out)
   unfolding listTree
-  list-leaves w used root s = by-way (descendOf 3 (routeOf w) used root s)
+  list-leaves w used root s = by-way (descendOf s used root (routeOf w) 3)
     where
       by-rows : (t : Told (List Row)) → AsWas out (listedRows t out)
       by-rows (ok rs) = fitted-leaves (records rs)
@@ -161,7 +161,7 @@ module _ (out : List ℕ) where
 
   scan-leaves : (sn : Snapshot) (st : ℕ → ℕ) (used root : ℕ) (s : List ℕ) → AsWas out (scanTree s used root sn st out)
   unfolding scanTree
-  scan-leaves sn st used root s = by-way (descendOf 3 Route.First used root s)
+  scan-leaves sn st used root s = by-way (descendOf s used root Route.First 3)
     where
       by-rows : (t : Told (List Row)) → AsWas out (listedVisible sn st out t)
       by-rows (ok rs) = fitted-leaves (records (scanRows sn st rs))

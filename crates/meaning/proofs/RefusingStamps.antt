@@ -61,7 +61,7 @@ module _ (t : Target) (pg : List ℕ) (B : AreBytes pg) (short : length pg ≤ 4
 -- so its plan has a cut that fits
 module _ (s : List ℕ) (st : State) (B : AreBytes s) (t : Target) (met : CellMet (st .used) (t .leaf) (t .cell) s)
     (is : t ≡ targetOf (t .leaf) (t .cell) (page (t .leaf) s)) where
-  pub plan-cuts : stampPlan st t s .ok ≡ true → stampPlan st t s .plan .over ≡ true → cutFits (bytesStamped t) (stampPlan st t s .plan .cut) ≡ true
+  pub plan-cuts : stampPlan s st t .ok ≡ true → stampPlan s st t .plan .over ≡ true → cutFits (bytesStamped t) (stampPlan s st t .plan .cut) ≡ true
   unfolding stampPlan
   plan-cuts e o =
       let pg = page (t .leaf) s in

@@ -106,9 +106,9 @@ module _ (ns : List ℕ) where
     at-known : (seen : Bool) (x : Spot) (m : ℕ) → (seen ≡ true → Known ns 6) → ReadyKnown (readyAt s st seen x m)
     unfolding readyAt
     at-known seen x m six =
-        let plan = insertPlan st x m s .plan in
+        let plan = insertPlan s st x m .plan in
         let n = roomOf (length s / 4096) st (bytesWith x m) plan in
-        either ReadyKnown (insertPlan st x m s .ok)
+        either ReadyKnown (insertPlan s st x m .ok)
         (λ e.
         either ReadyKnown seen six
         (λ e.
@@ -191,17 +191,17 @@ module _ (ns : List ℕ) where
   module _ (s : List ℕ) (st : State) (B : AreBytes s) (two : Known ns 2) (eleven : Known ns 11) (ten : Known ns 10) where
     module _ (t : Target) (met : CellMet (st .used) (t .leaf) (t .cell) s) (is : t ≡ targetOf (t .leaf) (t .cell) (page (t .leaf) s)) where
       -- 9 is none of them, whatever the numbers: the plan's cut fits
-      stamp-room : stampPlan st t s .ok ≡ true → Known ns (roomOf (length s / 4096) st (bytesStamped t) (stampPlan st t s .plan))
+      stamp-room : stampPlan s st t .ok ≡ true → Known ns (roomOf (length s / 4096) st (bytesStamped t) (stampPlan s st t .plan))
       stamp-room e =
-          room-known ns (length s / 4096) st (bytesStamped t) (stampPlan st t s .plan)
+          room-known ns (length s / 4096) st (bytesStamped t) (stampPlan s st t .plan)
           (λ o f. let g = plan-cuts s st B t met is e o in absurd (let z : _≡_ {A = ℕ} 0 1 = cc in omega arith)) eleven ten
 
       marking-known : (test : ChainTest) → (test ≡ ChainTest.Ok true → Known ns 7) → MarkingKnown (markingAt s st test t)
       unfolding markingAt
-      marking-known test seven = either MarkingKnown (stampPlan st t s .ok) (λ e. by-test test seven (stamp-room e)) (λ e. two)
+      marking-known test seven = either MarkingKnown (stampPlan s st t .ok) (λ e. by-test test seven (stamp-room e)) (λ e. two)
         where
           plan : Planned
-          plan = stampPlan st t s .plan
+          plan = stampPlan s st t .plan
 
           n : ℕ
           n = roomOf (length s / 4096) st (bytesStamped t) plan
@@ -313,7 +313,7 @@ module _ (s : List ℕ) (st : State) where
       either (Clears s _) (goodPool s st)
       (λ e.
       way-keeps s _ _ refl (λ p. count-keeps s _ (removedAlong s (st .used) p key (st .used)) refl (countAlong s (st .used) p key))
-      (descendOf 3 (Route.Search key) (st .used) (st .root) s))
+      (descendOf s (st .used) (st .root) (Route.Search key) 3))
       (λ e. not-cleared s _ (refusalOf 1) refl)
 
   vacuum-keeps : (bound : ℕ) (ss : Statuses) → Keeps s (1 ∷ 4 ∷ 2 ∷ []) (vacuumCall s st ss bound)
@@ -325,7 +325,7 @@ module _ (s : List ℕ) (st : State) where
       (λ e.
       way-keeps s _ _ refl
       (λ p. judged-keeps s _ (vacuumedAlong s (st .used) p (lookup ss) bound (st .used) 0) refl (judgedAlong s (st .used) p))
-      (descendOf 3 Route.First (st .used) (st .root) s))
+      (descendOf s (st .used) (st .root) Route.First 3))
       (λ e. not-cleared s _ (refusalOf 4) refl))
       (λ e. not-cleared s _ (refusalOf 1) refl)
 

@@ -76,7 +76,7 @@ module _ (s : List ℕ) (root used : ℕ) (t : Shape) (f : WellFormed (view s) r
   -- every look that takes all of a leaf's rows
   whole : (look : List Row → ℕ → List ℕ → Seen (List Row))
       → ((a : List Row) (p : ℕ) (pg : List ℕ) (e : ℕ) → judgeLeaf p pg ≡ Judged.Ok e → look a p pg ≡ go (a ++ rows pg))
-      → along look used used [] (first t) s ≡ ok (chain t)
+      → along s used (first t) look used [] ≡ ok (chain t)
   whole look says =
       walk-all look (λ a p pg. a ++ rows pg) says s root used t f []
       ∙ ap (λ (rs : List Row). ok rs)

@@ -103,7 +103,7 @@ module _ (used : ℕ) (s : List ℕ) where
   good zero par p lo hi h e = good-leaf par p lo hi h e
   good (suc n) par p lo hi h e =
       let pg = page p s in
-      let q = and-both (soundInner used par p lo hi s) (soundKids (soundTree n used s p) lo hi (keysOf pg) (childrenOf pg)) e in
+      let q = and-both (soundInner s used par p lo hi) (soundKids (soundTree n used s p) lo hi (keysOf pg) (childrenOf pg)) e in
       let g = sound-inner used par p lo hi s h (q .0) in
       let i = g .2 in
       let v : view s p ≡ innerPage par (nextLeaf pg) (childAt pg 0) (entriesOf pg) = inner-said pg (i .type) (i .low) (i .high) ∙ rw (g .1) in
@@ -166,7 +166,7 @@ module _ (s : List ℕ) (n par root : ℕ) (t : Shape) (tree : IsTree t) (top : 
 
 module _ (used root : ℕ) (s : List ℕ) where
   -- the tree that is read
-  pub well-is : (n : ℕ) → n ≤ 3 → wellAt n used root s ≡ true → WellFormed (view s) root used (read (view s) n root)
+  pub well-is : (n : ℕ) → n ≤ 3 → wellAt s used root n ≡ true → WellFormed (view s) root used (read (view s) n root)
   unfolding wellAt
   well-is n few e =
       let t = read (view s) n root in
@@ -186,7 +186,7 @@ module _ (used root : ℕ) (s : List ℕ) where
         below = g .below;
       }
 
-  pub well-at : (t : Shape) (f : WellFormed (view s) root used t) → wellAt (f .level .0) used root s ≡ true
+  pub well-at : (t : Shape) (f : WellFormed (view s) root used t) → wellAt s used root (f .level .0) ≡ true
   unfolding wellAt soundKids
   well-at t f =
       let n = f .level .0 in
@@ -199,29 +199,29 @@ module _ (used root : ℕ) (s : List ℕ) where
       rw (a, b) c
 
   -- one of four levels
-  any-level : (n : ℕ) → n ≤ 3 → wellAt n used root s ≡ true → isWellFormed used root s ≡ true
+  any-level : (n : ℕ) → n ≤ 3 → wellAt s used root n ≡ true → isWellFormed s used root ≡ true
   unfolding isWellFormed
   any-level zero h e = rw e
-  any-level (suc zero) h e = rw e (or-true (wellAt 0 used root s))
-  any-level (suc (suc zero)) h e = rw (e, or-true (wellAt 1 used root s)) (or-true (wellAt 0 used root s))
-  any-level (suc (suc (suc zero))) h e = rw (e, or-true (wellAt 2 used root s), or-true (wellAt 1 used root s)) (or-true (wellAt 0 used root s))
+  any-level (suc zero) h e = rw e (or-true (wellAt s used root 0))
+  any-level (suc (suc zero)) h e = rw (e, or-true (wellAt s used root 1)) (or-true (wellAt s used root 0))
+  any-level (suc (suc (suc zero))) h e = rw (e, or-true (wellAt s used root 2), or-true (wellAt s used root 1)) (or-true (wellAt s used root 0))
   any-level (suc (suc (suc (suc n)))) h e = absurd (omega arith)
 
-  some-level : isWellFormed used root s ≡ true → (n : ℕ) × (n ≤ 3) × (wellAt n used root s ≡ true)
+  some-level : isWellFormed s used root ≡ true → (n : ℕ) × (n ≤ 3) × (wellAt s used root n ≡ true)
   unfolding isWellFormed
-  some-level e = by-tests (wellAt 0 used root s) refl (wellAt 1 used root s) refl (wellAt 2 used root s) refl e
+  some-level e = by-tests (wellAt s used root 0) refl (wellAt s used root 1) refl (wellAt s used root 2) refl e
     where
-      by-tests : (a : Bool) → wellAt 0 used root s ≡ a → (b : Bool) → wellAt 1 used root s ≡ b → (c : Bool) → wellAt 2 used root s ≡ c
-          → (a || (b || (c || wellAt 3 used root s))) ≡ true → (n : ℕ) × (n ≤ 3) × (wellAt n used root s ≡ true)
+      by-tests : (a : Bool) → wellAt s used root 0 ≡ a → (b : Bool) → wellAt s used root 1 ≡ b → (c : Bool) → wellAt s used root 2 ≡ c
+          → (a || (b || (c || wellAt s used root 3))) ≡ true → (n : ℕ) × (n ≤ 3) × (wellAt s used root n ≡ true)
       by-tests true p b q c r e = (0, omega arith, p)
       by-tests false p true q c r e = (1, omega arith, q)
       by-tests false p false q true r e = (2, omega arith, r)
       by-tests false p false q false r e = (3, omega arith, e)
 
-pub formed-is : (used root : ℕ) (s : List ℕ) → isWellFormed used root s ≡ true → (t : Shape) × WellFormed (view s) root used t
+pub formed-is : (used root : ℕ) (s : List ℕ) → isWellFormed s used root ≡ true → (t : Shape) × WellFormed (view s) root used t
 formed-is used root s e =
     let l = some-level used root s e in
     (read (view s) (l .0) root, well-is used root s (l .0) (l .1) (l .2))
 
-pub formed-yes : (used root : ℕ) (s : List ℕ) (t : Shape) → WellFormed (view s) root used t → isWellFormed used root s ≡ true
+pub formed-yes : (used root : ℕ) (s : List ℕ) (t : Shape) → WellFormed (view s) root used t → isWellFormed s used root ≡ true
 formed-yes used root s t f = any-level used root s (f .level .0) (f .level .1) (well-at used root s t f)

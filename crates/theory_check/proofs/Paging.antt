@@ -222,22 +222,22 @@ inner-within lo hi p pg f =
 -- ---- a page of the pool
 
 module _ (used parent p lo hi : ℕ) (s : List ℕ) where
-  pub leaf-sound : p < used → parentOf (page p s) ≡ parent → LeafFits lo hi (page p s) → soundLeaf used parent p lo hi s ≡ true
+  pub leaf-sound : p < used → parentOf (page p s) ≡ parent → LeafFits lo hi (page p s) → soundLeaf s used parent p lo hi ≡ true
   unfolding soundLeaf
   leaf-sound h e f = rw (lt-ltb p used h, eq-eqb (parentOf (page p s)) parent e) (leaf-within lo hi p (page p s) f)
 
-  pub inner-sound : p < used → parentOf (page p s) ≡ parent → InnerFits lo hi (page p s) → soundInner used parent p lo hi s ≡ true
+  pub inner-sound : p < used → parentOf (page p s) ≡ parent → InnerFits lo hi (page p s) → soundInner s used parent p lo hi ≡ true
   unfolding soundInner
   inner-sound h e f = rw (lt-ltb p used h, eq-eqb (parentOf (page p s)) parent e) (inner-within lo hi p (page p s) f)
 
-  pub sound-leaf : lo ≤ hi → soundLeaf used parent p lo hi s ≡ true → (p < used) × (parentOf (page p s) ≡ parent) × LeafFits lo hi (page p s)
+  pub sound-leaf : lo ≤ hi → soundLeaf s used parent p lo hi ≡ true → (p < used) × (parentOf (page p s) ≡ parent) × LeafFits lo hi (page p s)
   unfolding soundLeaf
   sound-leaf h e =
       let a = and-both (ltb p used) (eqb (parentOf (page p s)) parent && cellsWithin lo hi p (page p s)) e in
       let b = and-both (eqb (parentOf (page p s)) parent) (cellsWithin lo hi p (page p s)) (a .1) in
       (ltb-true p used (a .0), eqb-true (parentOf (page p s)) parent (b .0), leaf-fits lo hi p (page p s) h (b .1))
 
-  pub sound-inner : lo ≤ hi → soundInner used parent p lo hi s ≡ true → (p < used) × (parentOf (page p s) ≡ parent) × InnerFits lo hi (page p s)
+  pub sound-inner : lo ≤ hi → soundInner s used parent p lo hi ≡ true → (p < used) × (parentOf (page p s) ≡ parent) × InnerFits lo hi (page p s)
   unfolding soundInner
   sound-inner h e =
       let judged = onInner (λ n. allWithin lo hi (keysOf (page p s))) (λ f. false) (judgeInner p (page p s)) in

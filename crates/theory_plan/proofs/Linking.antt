@@ -111,7 +111,7 @@ module _ (used : ℕ) (s : List ℕ) (P N : ℕ) where
       by-count false e h = tt
 
 pub plan-ok : (s : List ℕ) (root used : ℕ) (c : Ctx) (p : ℕ) (rs : List Row) → WellFormed (view s) root used (plug c (leaf p rs))
-    → planOf used p (path c) s ≡ Plan.Ok (divisionOf (path c) s)
+    → planOf s used p (path c) ≡ Plan.Ok (divisionOf (path c) s)
 unfolding planOf
 plan-ok s root used c p rs f =
     rw (use-all used (relinks p (path c) s) (relinks-low used s 0 0 p c (leaf p rs) (unplug-rep (view s) 0 0 c (leaf p rs) (f .rep) .0) (f .below)))
@@ -176,14 +176,14 @@ leaf-grown s root used c p rs f l r k q u =
 
 -- ---- the plan of the leaf
 
-module _ (st : State) (p : ℕ) (cut : Cut) (s ps : List ℕ) (climbs : climbOf 3 (st .used) (st .root) p s ≡ Way.up (p ∷ ps)) where
+module _ (st : State) (p : ℕ) (cut : Cut) (s ps : List ℕ) (climbs : climbOf s (st .used) (st .root) p 3 ≡ Way.up (p ∷ ps)) where
   -- it fits
-  pub leaf-stays : leafPlan st p false cut s ≡ planned (fitting (pathOf (p ∷ ps)))
+  pub leaf-stays : leafPlan s st p false cut ≡ planned (fitting (pathOf (p ∷ ps)))
   unfolding leafPlan
   leaf-stays = rw climbs
 
   -- it would be overfull
-  pub leaf-divides : {d : Division} → planOf (st .used) p ps s ≡ Plan.Ok d → leafPlan st p true cut s ≡ planned (dividing (pathOf (p ∷ ps)) cut d)
+  pub leaf-divides : {d : Division} → planOf s (st .used) p ps ≡ Plan.Ok d → leafPlan s st p true cut ≡ planned (dividing (pathOf (p ∷ ps)) cut d)
   unfolding leafPlan
   leaf-divides e = rw (climbs, path-first p ps, path-above p ps, e)
 
@@ -192,6 +192,6 @@ abbrev pub planAbove : Ctx → (p : ℕ) → (over : Bool) → Cut → List ℕ 
 planAbove c p over cut s = pick over (dividing (pathOf (p ∷ path c)) cut (divisionOf (path c) s)) (fitting (pathOf (p ∷ path c)))
 
 pub leafPlan-ok : (s : List ℕ) (st : State) (c : Ctx) (p : ℕ) (rs : List Row) → WellFormed (view s) (st .root) (st .used) (plug c (leaf p rs))
-    → climbOf 3 (st .used) (st .root) p s ≡ Way.up (p ∷ path c) → (over : Bool) (cut : Cut) → leafPlan st p over cut s ≡ planned (planAbove c p over cut s)
+    → climbOf s (st .used) (st .root) p 3 ≡ Way.up (p ∷ path c) → (over : Bool) (cut : Cut) → leafPlan s st p over cut ≡ planned (planAbove c p over cut s)
 leafPlan-ok s st c p rs f climbs true cut = leaf-divides st p cut s (path c) climbs (plan-ok s (st .root) (st .used) c p rs f)
 leafPlan-ok s st c p rs f climbs false cut = leaf-stays st p cut s (path c) climbs

@@ -65,7 +65,7 @@ not-root (under q c) x l i d = by-high (high c) refl (not-root c (node q x))
 module _ (s : List ℕ) (used : ℕ) where
   -- the page above
   above-is : (p q par j : ℕ) (x : Shape) (lo hi : ℕ) → view s q ≡ innerPage par j (head x) (rest x) → Bounded lo hi x → q < used
-      → parentOf (page p s) ≡ q → List·Memᴰ p (roots x) → aboveOf used p s ≡ Above.Page q
+      → parentOf (page p s) ≡ q → List·Memᴰ p (roots x) → aboveOf s used p ≡ Above.Page q
   above-is p q par j x lo hi v b u e m =
       let a = judged-inner-of s q par j (head x) (rest x) v (seps-rise lo hi x b) in
       let n : cellCount (page q s) ≡ length (rest x) = count-of s q par j (head x) (rest x) v in
@@ -74,22 +74,22 @@ module _ (s : List ℕ) (used : ℕ) where
       let l : childPlace p (roots x) < length (roots x) = place-in p (roots x) m in
       sym (above-page used p s refl (sym e) u refl refl a (ap (childPlace p) (sym k)) (omega arith))
 
-  root-way : (m r p : ℕ) → p ≡ r → parentOf (page p s) ≡ 0 → climbOf m used r p s ≡ up (p ∷ [])
+  root-way : (m r p : ℕ) → p ≡ r → parentOf (page p s) ≡ 0 → climbOf s used r p m ≡ up (p ∷ [])
   unfolding climbOf
   root-way zero r p w e = rw (eq-eqb p r w, eq-eqb (parentOf (page p s)) 0 e)
   root-way (suc m) r p w e = rw (eq-eqb p r w, eq-eqb (parentOf (page p s)) 0 e)
 
-  way-up : (m root p q : ℕ) (qs : List ℕ) → (p ≡ root → ⊥) → aboveOf used p s ≡ Above.Page q → climbOf m used root q s ≡ up (q ∷ qs)
-      → climbOf (suc m) used root p s ≡ up (p ∷ q ∷ qs)
+  way-up : (m root p q : ℕ) (qs : List ℕ) → (p ≡ root → ⊥) → aboveOf s used p ≡ Above.Page q → climbOf s used root q m ≡ up (q ∷ qs)
+      → climbOf s used root p (suc m) ≡ up (p ∷ q ∷ qs)
   unfolding climbOf
   way-up m root p q qs z w ih = rw (ne-eqb p root z, w, ih)
 
   climb-run : (c : Ctx) (x : Shape) (m p : ℕ) → high c ≤ m → Holds (view s) 0 0 (plug c x) → IsTree (plug c x) → NoneTwice (pagesIn (plug c x))
       → All (λ q. q < used) (pagesIn (plug c x)) → (hi : ℕ) → Bounded 0 hi (plug c x) → List·Memᴰ p (roots x) → parentOf (page p s) ≡ parC 0 c
-      → climbOf m used (head (plug c x)) p s ≡ up (p ∷ path c)
+      → climbOf s used (head (plug c x)) p m ≡ up (p ∷ path c)
   climb-run top x m p l h i d u hi b k e = at-root x i k m
     where
-      at-root : (x : Shape) → IsTree x → List·Memᴰ p (roots x) → (m : ℕ) → climbOf m used (head x) p s ≡ up (p ∷ [])
+      at-root : (x : Shape) → IsTree x → List·Memᴰ p (roots x) → (m : ℕ) → climbOf s used (head x) p m ≡ up (p ∷ [])
       at-root (leaf r rs) i k m = root-way m r p (List·Memᴰ·eq-of-singleton k) e
       at-root (node r f) i k m = root-way m r p (List·Memᴰ·eq-of-singleton k) e
       at-root (pair a n g) i k m = absurd i
@@ -108,7 +108,7 @@ module _ (s : List ℕ) (used : ℕ) where
 
 -- from a leaf of a tree
 pub climb-leaf : (s : List ℕ) (root used : ℕ) (t : Shape) → WellFormed (view s) root used t → (c : Ctx) (p : ℕ) (rs : List Row) → t ≡ plug c (leaf p rs)
-    → climbOf 3 used root p s ≡ up (p ∷ path c)
+    → climbOf s used root p 3 ≡ up (p ∷ path c)
 climb-leaf s root used t f c p rs e =
     let h : Holds (view s) 0 0 (plug c (leaf p rs)) = subst (Holds (view s) 0 0) e (f .rep) in
     let v = unplug-rep (view s) 0 0 c (leaf p rs) h .1 in

@@ -93,7 +93,7 @@ module _ (left : ℕ → Bool) where
 -- ---- the descent
 
 pub descend-run : (s : List ℕ) (used : ℕ) (route : Route) (n m par nxt lo hi : ℕ) (g : Shape) → Holds (view s) par nxt g → Deep n g → Bounded lo hi g
-    → All (λ p. p < used) (pagesIn g) → n ≤ m → descendOf m route used (childBy (leftOn route) (head g) (rest g)) s ≡ Descent.Leaf (leafBy (leftOn route) g)
+    → All (λ p. p < used) (pagesIn g) → n ≤ m → descendOf s used (childBy (leftOn route) (head g) (rest g)) route m ≡ Descent.Leaf (leafBy (leftOn route) g)
 descend-run s used route n m par nxt lo hi (leaf p rs) h d b u l =
     sym (way-leaf route used p s (u .0) refl refl m (leaf-at s p par nxt rs h .type))
 descend-run s used route n m par nxt lo hi (node p f) h d b u l =
@@ -111,17 +111,17 @@ descend-run s used route n m par nxt lo hi (pair a k g) h d b u l =
     (descend-run s used route n m par nxt k hi g (h .1) (d .1) (b .1) (all-right (λ p. p < used) (pagesIn a) (pagesIn g) u) l)
   where
     by-left : (x : Bool) → leftOn route k ≡ x
-        → descendOf m route used (childBy (leftOn route) (head a) (rest a)) s ≡ Descent.Leaf (leafBy (leftOn route) a)
-        → descendOf m route used (childBy (leftOn route) (head g) (rest g)) s ≡ Descent.Leaf (leafBy (leftOn route) g)
-        → descendOf m route used (childBy (leftOn route) (head a) (rest a ++ ((k, head g) ∷ rest g))) s
+        → descendOf s used (childBy (leftOn route) (head a) (rest a)) route m ≡ Descent.Leaf (leafBy (leftOn route) a)
+        → descendOf s used (childBy (leftOn route) (head g) (rest g)) route m ≡ Descent.Leaf (leafBy (leftOn route) g)
+        → descendOf s used (childBy (leftOn route) (head a) (rest a ++ ((k, head g) ∷ rest g))) route m
         ≡ Descent.Leaf (pick x (leafBy (leftOn route) a) (leafBy (leftOn route) g))
-    by-left true e i j = ap (λ (q : ℕ). descendOf m route used q s) (child-left (leftOn route) (head a) (rest a) k (head g) (rest g) e) ∙ i
+    by-left true e i j = ap (λ (q : ℕ). descendOf s used q route m) (child-left (leftOn route) (head a) (rest a) k (head g) (rest g) e) ∙ i
     by-left false e i j =
-        ap (λ (q : ℕ). descendOf m route used q s) (child-right (leftOn route) (right-before route) (head a) (rest a) k (head g) (rest g) e (seps-below lo k a (b .0))) ∙ j
+        ap (λ (q : ℕ). descendOf s used q route m) (child-right (leftOn route) (right-before route) (head a) (rest a) k (head g) (rest g) e (seps-below lo k a (b .0))) ∙ j
 
 -- from the one page of a tree
 pub descend-sub : (s : List ℕ) (used : ℕ) (route : Route) (n m par nxt lo hi : ℕ) (g : Shape) → IsTree g → Holds (view s) par nxt g → Deep n g → Bounded lo hi g
-    → All (λ p. p < used) (pagesIn g) → n ≤ m → descendOf m route used (head g) s ≡ Descent.Leaf (leafBy (leftOn route) g)
+    → All (λ p. p < used) (pagesIn g) → n ≤ m → descendOf s used (head g) route m ≡ Descent.Leaf (leafBy (leftOn route) g)
 descend-sub s used route n m par nxt lo hi g i h d b u l = rw (tree-rest g i) at (descend-run s used route n m par nxt lo hi g h d b u l)
 
 -- ---- where each route leads to
@@ -149,15 +149,15 @@ first-leaf (pair a k b) = first-leaf a
 -- ---- the whole tree
 
 module _ (s : List ℕ) (root used : ℕ) (t : Shape) (f : WellFormed (view s) root used t) where
-  pub descend-tree : (route : Route) → descendOf 3 route used root s ≡ Descent.Leaf (leafBy (leftOn route) t)
+  pub descend-tree : (route : Route) → descendOf s used root route 3 ≡ Descent.Leaf (leafBy (leftOn route) t)
   descend-tree route =
       rw (f .root-is) at (descend-sub s used route (f .level .0) 3 0 0 0 4294967295 t (f .tree) (f .rep) (f .level .2) (f .bounds) (f .below) (f .level .1))
 
-  pub descend-search : (key : ℕ) → descendOf 3 (Route.Search key) used root s ≡ Descent.Leaf (leafOf key t)
+  pub descend-search : (key : ℕ) → descendOf s used root (Route.Search key) 3 ≡ Descent.Leaf (leafOf key t)
   descend-search key = descend-tree (Route.Search key) ∙ ap (λ (p : ℕ). Descent.Leaf p) (search-leaf key t)
 
-  pub descend-insert : (key : ℕ) → descendOf 3 (Route.Insert key) used root s ≡ Descent.Leaf (loc key t top .page)
+  pub descend-insert : (key : ℕ) → descendOf s used root (Route.Insert key) 3 ≡ Descent.Leaf (loc key t top .page)
   descend-insert key = descend-tree (Route.Insert key) ∙ ap (λ (p : ℕ). Descent.Leaf p) (insert-leaf key t top)
 
-  pub descend-first : descendOf 3 Route.First used root s ≡ Descent.Leaf (first t)
+  pub descend-first : descendOf s used root Route.First 3 ≡ Descent.Leaf (first t)
   descend-first = descend-tree Route.First ∙ ap (λ (p : ℕ). Descent.Leaf p) (first-leaf t)

@@ -231,7 +231,7 @@ module _ {A : Type 0} (look : A → ℕ → List ℕ → Seen A) (ends : List Ro
     (says : (a : A) (p : ℕ) (pg : List ℕ) (e : ℕ) → judgeLeaf p pg ≡ Judged.Ok e → look a p pg ≡ pick (ends (rows pg)) (stop (step a p pg)) (go (step a p pg)))
     (s : List ℕ) (used : ℕ) where
   walk-list : (m : ℕ) (a : A) (l : Loc) (ls : List Loc) → length ls < m → All (AtLeaf s used) (l ∷ ls) → Linked 0 0 (l ∷ ls) → Nz ls
-      → along look used m a (l .page) s ≡ ok (gather step s a (upTo ends (l ∷ ls)))
+      → along s used (l .page) look m a ≡ ok (gather step s a (upTo ends (l ∷ ls)))
   walk-list zero a l ls n h k o = absurd (omega arith)
   walk-list (suc m) a l ls n h k o =
       by-end (ends (l .cells)) ls n (h .1) k o
@@ -241,8 +241,8 @@ module _ {A : Type 0} (look : A → ℕ → List ℕ → Seen A) (ends : List Ro
       by-end : (x : Bool) (ls : List Loc) → length ls < suc m → All (AtLeaf s used) ls → Linked 0 0 (l ∷ ls) → Nz ls
           → look a (l .page) (page (l .page) s) ≡ pick x (stop (step a (l .page) (page (l .page) s))) (go (step a (l .page) (page (l .page) s)))
           → ((b : A) (l′ : Loc) (ls′ : List Loc) → length ls′ < m → All (AtLeaf s used) (l′ ∷ ls′) → Linked 0 0 (l′ ∷ ls′) → Nz ls′
-          → along look used m b (l′ .page) s ≡ ok (gather step s b (upTo ends (l′ ∷ ls′))))
-          → along look used (suc m) a (l .page) s ≡ ok (gather step s (step a (l .page) (page (l .page) s)) (pick x [] (upTo ends ls)))
+          → along s used (l′ .page) look m b ≡ ok (gather step s b (upTo ends (l′ ∷ ls′))))
+          → along s used (l .page) look (suc m) a ≡ ok (gather step s (step a (l .page) (page (l .page) s)) (pick x [] (upTo ends ls)))
       by-end true ls n g k o e ih = sym (along-last look used a (l .page) s (h .0 .in-use) refl (suc m) (omega arith) e)
       by-end false [] n g k o e ih = sym (along-end look used a (l .page) s (h .0 .in-use) refl (suc m) (omega arith) e refl (h .0 .says .next ∙ k .0))
       by-end false (l′ ∷ ls′) n g k o e ih =
@@ -252,21 +252,21 @@ module _ {A : Type 0} (look : A → ℕ → List ℕ → Seen A) (ends : List Ro
           ∙ rw i (ih (step a (l .page) (page (l .page) s)) l′ ls′ (let z : suc (length ls′) < suc m = n in omega arith) g (k .1) (o .1))
 
   walk-from : (m p : ℕ) (a : A) (ls : List Loc) → length ls ≤ m → ((z : ℕ) → headPage ls z ≡ p) → All (AtLeaf s used) ls → Linked 0 0 ls → NzTail ls
-      → along look used m a p s ≡ ok (gather step s a (upTo ends ls))
+      → along s used p look m a ≡ ok (gather step s a (upTo ends ls))
   walk-from m p a [] n e h k o = absurd (let z : _≡_ {A = ℕ} 0 1 = e 0 ∙ sym (e 1) in omega arith)
-  walk-from m p a (l ∷ ls) n e h k o = ap (λ (q : ℕ). along look used m a q s) (sym (e 0)) ∙ walk-list m a l ls n h k o
+  walk-from m p a (l ∷ ls) n e h k o = ap (λ (q : ℕ). along s used q look m a) (sym (e 0)) ∙ walk-list m a l ls n h k o
 
   module _ (root : ℕ) (t : Shape) (f : WellFormed (view s) root used t) where
     few : length (pagesIn t) ≤ used
     few = pigeon used (pagesIn t) (f .distinct) (f .below)
 
     -- from where search for a key comes to, and from the first leaf
-    pub walk-search : (key : ℕ) (a : A) → along look used used a (leafOf key t) s ≡ ok (gather step s a (upTo ends (froms key t top)))
+    pub walk-search : (key : ℕ) (a : A) → along s used (leafOf key t) look used a ≡ ok (gather step s a (upTo ends (froms key t top)))
     walk-search key a =
         walk-from used (leafOf key t) a (froms key t top) (le-trans (froms-count key t top) few) (froms-head key t top)
         (at-leaves s root used t f (froms key t top) (froms-plug key t top)) (froms-linked 0 key t top) (froms-nz key t top (f .later))
 
-    pub walk-first : (a : A) → along look used used a (first t) s ≡ ok (gather step s a (upTo ends (locs t top)))
+    pub walk-first : (a : A) → along s used (first t) look used a ≡ ok (gather step s a (upTo ends (locs t top)))
     walk-first a =
         walk-from used (first t) a (locs t top) (le-trans (locs-count t top) few) (locs-head t top)
         (at-leaves s root used t f (locs t top) (locs-plug t top)) (locs-linked 0 t top) (locs-later s root used t f)
@@ -278,7 +278,7 @@ module _ {A : Type 0} (look : A → ℕ → List ℕ → Seen A) (key : ℕ) (st
     (says : (a : A) (p : ℕ) (pg : List ℕ) (e : ℕ) → judgeLeaf p pg ≡ Judged.Ok e → look a p pg ≡ pick (larger key (rows pg)) (stop (step a p pg)) (go (step a p pg)))
     (skips : (a : A) (p : ℕ) (pg : List ℕ) (e : ℕ) → judgeLeaf p pg ≡ Judged.Ok e → All (λ (r : Row). ofKey key r ≡ false) (rows pg) → step a p pg ≡ a)
     (s : List ℕ) (root used : ℕ) (t : Shape) (f : WellFormed (view s) root used t) where
-  pub walk-key : (a : A) → along look used used a (leafOf key t) s ≡ ok (gather step s a (locs t top))
+  pub walk-key : (a : A) → along s used (leafOf key t) look used a ≡ ok (gather step s a (locs t top))
   walk-key a =
       walk-search look (larger key) step says s used root t f key a
       ∙ ap (λ (x : A). ok x) (gather-around step s used key skips t (at-leaves s root used t f (locs t top) (locs-plug t top)) (around key 0 4294967295 t (f .bounds)) a)
@@ -287,5 +287,5 @@ module _ {A : Type 0} (look : A → ℕ → List ℕ → Seen A) (key : ℕ) (st
 module _ {A : Type 0} (look : A → ℕ → List ℕ → Seen A) (step : A → ℕ → List ℕ → A)
     (says : (a : A) (p : ℕ) (pg : List ℕ) (e : ℕ) → judgeLeaf p pg ≡ Judged.Ok e → look a p pg ≡ go (step a p pg))
     (s : List ℕ) (root used : ℕ) (t : Shape) (f : WellFormed (view s) root used t) where
-  pub walk-all : (a : A) → along look used used a (first t) s ≡ ok (gather step s a (locs t top))
+  pub walk-all : (a : A) → along s used (first t) look used a ≡ ok (gather step s a (locs t top))
   walk-all a = walk-first look (λ rs. false) step says s used root t f a ∙ ap (λ (ls : List Loc). ok (gather step s a ls)) (up-to-end (locs t top))

@@ -29,40 +29,40 @@ use Rattle.tree.specs.declared.climb.Above.{Above}
 -- ---- the page above
 
 module _ (used p q : ℕ) (s : List ℕ) where
-  from-unused : {f : Fault} → used ≤ q → f ≡ structural q → Above.Bad f ≡ aboveFrom used p q s
+  from-unused : {f : Fault} → used ≤ q → f ≡ structural q → Above.Bad f ≡ aboveFrom s used p q
   unfolding aboveFrom
   from-unused h e = rw (le-ltb q used h, e)
 
   module _ {pg : List ℕ} {r : InnerJudged} (h : q < used) (here : pg ≡ page q s) (judged : r ≡ judgeInner q pg) where
-    from-bad : {f : Fault} → r ≡ InnerJudged.Bad f → Above.Bad f ≡ aboveFrom used p q s
+    from-bad : {f : Fault} → r ≡ InnerJudged.Bad f → Above.Bad f ≡ aboveFrom s used p q
     unfolding aboveFrom
     from-bad e = rw (lt-ltb q used h, ← here, sym judged ∙ e)
 
     module _ {n i : ℕ} (e : r ≡ InnerJudged.Ok n) (place : i ≡ childPlace p (childrenFrom 0 (n + 1) pg)) where
-      from-found : i ≤ n → Above.Page q ≡ aboveFrom used p q s
+      from-found : i ≤ n → Above.Page q ≡ aboveFrom s used p q
       unfolding aboveFrom
       from-found l = rw (lt-ltb q used h, ← here, sym judged ∙ e, ← place, lt-ltb i (n + 1) (omega arith))
 
-      from-other : {f : Fault} → n < i → f ≡ structural q → Above.Bad f ≡ aboveFrom used p q s
+      from-other : {f : Fault} → n < i → f ≡ structural q → Above.Bad f ≡ aboveFrom s used p q
       unfolding aboveFrom
       from-other l u = rw (lt-ltb q used h, ← here, sym judged ∙ e, ← place, le-ltb i (n + 1) (omega arith), u)
 
 module _ (used p : ℕ) (s : List ℕ) {pg₀ : List ℕ} {q : ℕ} (low : pg₀ ≡ page p s) (parent : q ≡ parentOf pg₀) where
-  from-parent : aboveFrom used p q s ≡ aboveOf used p s
-  from-parent = ap (λ (x : ℕ). aboveFrom used p x s) (parent ∙ ap parentOf low)
+  from-parent : aboveFrom s used p q ≡ aboveOf s used p
+  from-parent = ap (λ (x : ℕ). aboveFrom s used p x) (parent ∙ ap parentOf low)
 
-  pub above-unused : {f : Fault} → used ≤ q → f ≡ structural q → Above.Bad f ≡ aboveOf used p s
+  pub above-unused : {f : Fault} → used ≤ q → f ≡ structural q → Above.Bad f ≡ aboveOf s used p
   above-unused h e = from-unused used p q s h e ∙ from-parent
 
   module _ {pg : List ℕ} {r : InnerJudged} (h : q < used) (here : pg ≡ page q s) (judged : r ≡ judgeInner q pg) where
-    pub above-bad : {f : Fault} → r ≡ InnerJudged.Bad f → Above.Bad f ≡ aboveOf used p s
+    pub above-bad : {f : Fault} → r ≡ InnerJudged.Bad f → Above.Bad f ≡ aboveOf s used p
     above-bad e = from-bad used p q s h here judged e ∙ from-parent
 
     module _ {n i : ℕ} (e : r ≡ InnerJudged.Ok n) (place : i ≡ childPlace p (childrenFrom 0 (n + 1) pg)) where
-      pub above-page : i ≤ n → Above.Page q ≡ aboveOf used p s
+      pub above-page : i ≤ n → Above.Page q ≡ aboveOf s used p
       above-page l = from-found used p q s h here judged e place l ∙ from-parent
 
-      pub above-other : {f : Fault} → n < i → f ≡ structural q → Above.Bad f ≡ aboveOf used p s
+      pub above-other : {f : Fault} → n < i → f ≡ structural q → Above.Bad f ≡ aboveOf s used p
       above-other l u = from-other used p q s h here judged e place l u ∙ from-parent
 
 -- ---- at the root
@@ -83,7 +83,7 @@ stepPath path p = record { pages = set (path .pages) (path .len) p; len = path .
 unfoldable pub climbFrom : (k : ℕ) → (used root p : ℕ) → Path → List ℕ → Climbed
 climbFrom zero used root p path s = pick (eqb p root) (atRoot p (stepPath path p) s) (lost (structural p))
 climbFrom (suc k) used root p path s =
-    pick (eqb p root) (atRoot p (stepPath path p) s) (onAbove (λ q. climbFrom k used root q (stepPath path p) s) (λ f. lost f) (aboveOf used p s))
+    pick (eqb p root) (atRoot p (stepPath path p) s) (onAbove (λ q. climbFrom k used root q (stepPath path p) s) (λ f. lost f) (aboveOf s used p))
 
 module _ (used root p : ℕ) (path : Path) (s : List ℕ) where
   pub climb-root : (k : ℕ) {r : Climbed} → p ≡ root → r ≡ atRoot p (stepPath path p) s → r ≡ climbFrom k used root p path s
@@ -97,7 +97,7 @@ module _ (used root p : ℕ) (path : Path) (s : List ℕ) where
     climb-high zero z e u = u ∙ rw (ne-eqb p root h, e)
     climb-high (suc k) z e u = absurd (omega arith)
 
-    module _ {a : Above} (step : a ≡ aboveOf used p s) where
+    module _ {a : Above} (step : a ≡ aboveOf s used p) where
       pub climb-bad : (k : ℕ) {f : Fault} {r : Climbed} → (k ≡ 0 → ⊥) → a ≡ Above.Bad f → r ≡ lost f → r ≡ climbFrom k used root p path s
       unfolding climbFrom
       climb-bad zero z e u = absurd (z refl)
@@ -128,18 +128,18 @@ path-step xs p h =
     let n : 4 - (length xs + 1) ≡ 3 - length xs = omega arith in
     rw (l, m, n, set-append-seam xs 0 (zeros (3 - length xs)) p, append-snoc xs p (zeros (3 - length xs)))
 
-root-is : (p : ℕ) (xs : List ℕ) (s : List ℕ) → length xs < 4 → atRoot p (stepPath (pathOf xs) p) s ≡ climbed (after xs (rootWay p s))
+root-is : (p : ℕ) (xs : List ℕ) (s : List ℕ) → length xs < 4 → atRoot p (stepPath (pathOf xs) p) s ≡ climbed (after xs (rootWay s p))
 root-is p xs s h = rw (path-step xs p h) (by-parent (eqb (parentOf (page p s)) 0))
   where
     by-parent : (b : Bool) → pick b (arrived (pathOf (xs ++ (p ∷ [])))) (lost (structural p)) ≡ climbed (after xs (pick b (up (p ∷ [])) (astray (structural p))))
     by-parent true = refl
     by-parent false = refl
 
-from-is : (k used root p : ℕ) (xs : List ℕ) (s : List ℕ) → length xs + k < 4 → climbFrom k used root p (pathOf xs) s ≡ climbed (after xs (climbOf k used root p s))
+from-is : (k used root p : ℕ) (xs : List ℕ) (s : List ℕ) → length xs + k < 4 → climbFrom k used root p (pathOf xs) s ≡ climbed (after xs (climbOf s used root p k))
 unfolding climbFrom climbOf
 from-is zero used root p xs s h = by-root (eqb p root)
   where
-    by-root : (b : Bool) → pick b (atRoot p (stepPath (pathOf xs) p) s) (lost (structural p)) ≡ climbed (after xs (pick b (rootWay p s) (astray (structural p))))
+    by-root : (b : Bool) → pick b (atRoot p (stepPath (pathOf xs) p) s) (lost (structural p)) ≡ climbed (after xs (pick b (rootWay s p) (astray (structural p))))
     by-root true = root-is p xs s (omega arith)
     by-root false = refl
 from-is (suc k) used root p xs s h =
@@ -147,19 +147,19 @@ from-is (suc k) used root p xs s h =
     (λ q.
     let l : length (xs ++ (p ∷ [])) ≡ length xs + 1 = length-append xs (p ∷ []) in
     ap (λ (x : Path). climbFrom k used root q x s) (path-step xs p (omega arith))
-    ∙ (from-is k used root q (xs ++ (p ∷ [])) s (omega arith) ∙ ap climbed (after-below xs p (climbOf k used root q s))))
-    (eqb p root) (aboveOf used p s)
+    ∙ (from-is k used root q (xs ++ (p ∷ [])) s (omega arith) ∙ ap climbed (after-below xs p (climbOf s used root q k))))
+    (eqb p root) (aboveOf s used p)
   where
-    by-root : ((q : ℕ) → climbFrom k used root q (stepPath (pathOf xs) p) s ≡ climbed (after xs (wayFrom p (climbOf k used root q s)))) → (b : Bool) (a : Above)
+    by-root : ((q : ℕ) → climbFrom k used root q (stepPath (pathOf xs) p) s ≡ climbed (after xs (wayFrom p (climbOf s used root q k)))) → (b : Bool) (a : Above)
         → pick b (atRoot p (stepPath (pathOf xs) p) s) (onAbove (λ q. climbFrom k used root q (stepPath (pathOf xs) p) s) (λ f. lost f) a)
-        ≡ climbed (after xs (pick b (rootWay p s) (onAbove (λ q. wayFrom p (climbOf k used root q s)) (λ f. astray f) a)))
+        ≡ climbed (after xs (pick b (rootWay s p) (onAbove (λ q. wayFrom p (climbOf s used root q k)) (λ f. astray f) a)))
     by-root ih true a = root-is p xs s (omega arith)
     by-root ih false (Above.Page q) = ih q
     by-root ih false (Above.Bad f) = refl
 
-pub climb-is : (used root p : ℕ) (s : List ℕ) → climbFrom 3 used root p (record { pages = zeros 4; len = 0 }) s ≡ climbed (climbOf 3 used root p s)
+pub climb-is : (used root p : ℕ) (s : List ℕ) → climbFrom 3 used root p (record { pages = zeros 4; len = 0 }) s ≡ climbed (climbOf s used root p 3)
 unfolding pad
-climb-is used root p s = from-is 3 used root p [] s (omega arith) ∙ ap climbed (same (climbOf 3 used root p s))
+climb-is used root p s = from-is 3 used root p [] s (omega arith) ∙ ap climbed (same (climbOf s used root p 3))
   where
     same : (w : Way) → after [] w ≡ w
     same (up ps) = refl
@@ -176,7 +176,7 @@ pub record Held (used p q : ℕ) (s : List ℕ) : Type 0 where
   pub place : childPlace p (childrenFrom 0 (keys + 1) (page q s)) ≤ keys
 
 -- what the step to the page above says
-pub held : (used p : ℕ) (s : List ℕ) {q : ℕ} → aboveOf used p s ≡ Above.Page q → Held used p q s
+pub held : (used p : ℕ) (s : List ℕ) {q : ℕ} → aboveOf s used p ≡ Above.Page q → Held used p q s
 unfolding aboveFrom
 held used p s {q} e = by-use (parentOf (page p s)) refl (ltb (parentOf (page p s)) used) refl e
   where
@@ -226,7 +226,7 @@ pub record Risen (k used root p : ℕ) (s ps : List ℕ) : Type 0 where
   pub rises : Rises used root p s above
 
 module _ (used root : ℕ) (s : List ℕ) where
-  root-risen : (k p : ℕ) {ps : List ℕ} → p ≡ root → rootWay p s ≡ up ps → Risen k used root p s ps
+  root-risen : (k p : ℕ) {ps : List ℕ} → p ≡ root → rootWay s p ≡ up ps → Risen k used root p s ps
   root-risen k p {ps} h e = by-parent (eqb (parentOf (page p s)) 0) refl e
     where
       by-parent : (b : Bool) → eqb (parentOf (page p s)) 0 ≡ b → pick b (up (p ∷ [])) (astray (structural p)) ≡ up ps → Risen k used root p s ps
@@ -234,11 +234,11 @@ module _ (used root : ℕ) (s : List ℕ) where
       by-parent false q u = absurd (let z : _≡_ {A = ℕ} 0 1 = cc in omega arith)
 
   -- what a climb that came to the root went through
-  pub climb-risen : (k p : ℕ) {ps : List ℕ} → climbOf k used root p s ≡ up ps → Risen k used root p s ps
+  pub climb-risen : (k p : ℕ) {ps : List ℕ} → climbOf s used root p k ≡ up ps → Risen k used root p s ps
   unfolding climbOf
   climb-risen zero p {ps} e = by-root (eqb p root) refl e
     where
-      by-root : (b : Bool) → eqb p root ≡ b → pick b (rootWay p s) (astray (structural p)) ≡ up ps → Risen 0 used root p s ps
+      by-root : (b : Bool) → eqb p root ≡ b → pick b (rootWay s p) (astray (structural p)) ≡ up ps → Risen 0 used root p s ps
       by-root true q u = root-risen 0 p (eqb-true p root q) u
       by-root false q u = absurd (let z : _≡_ {A = ℕ} 0 1 = cc in omega arith)
   climb-risen (suc k) p {ps} e = by-root (λ q qs u. climb-risen k q {ps = qs} u) (eqb p root) refl e
@@ -251,15 +251,15 @@ module _ (used root : ℕ) (s : List ℕ) where
           record { above = q ∷ r .above; is = cc; few = omega arith; rises = (z, h, r .rises) }
       by-way q (astray f) ih z h u = absurd (let z : _≡_ {A = ℕ} 0 1 = cc in omega arith)
 
-      by-above : ((q : ℕ) (qs : List ℕ) → climbOf k used root q s ≡ up qs → Risen k used root q s qs) → (p ≡ root → ⊥) → (a : Above) → aboveOf used p s ≡ a
-          → onAbove (λ q. wayFrom p (climbOf k used root q s)) (λ f. astray f) a ≡ up ps → Risen (suc k) used root p s ps
-      by-above ih z (Above.Page q) t u = by-way q (climbOf k used root q s) (ih q) z (held used p s t) u
+      by-above : ((q : ℕ) (qs : List ℕ) → climbOf s used root q k ≡ up qs → Risen k used root q s qs) → (p ≡ root → ⊥) → (a : Above) → aboveOf s used p ≡ a
+          → onAbove (λ q. wayFrom p (climbOf s used root q k)) (λ f. astray f) a ≡ up ps → Risen (suc k) used root p s ps
+      by-above ih z (Above.Page q) t u = by-way q (climbOf s used root q k) (ih q) z (held used p s t) u
       by-above ih z (Above.Bad f) t u = absurd (let z : _≡_ {A = ℕ} 0 1 = cc in omega arith)
 
-      by-root : ((q : ℕ) (qs : List ℕ) → climbOf k used root q s ≡ up qs → Risen k used root q s qs) → (b : Bool) → eqb p root ≡ b
-          → pick b (rootWay p s) (onAbove (λ q. wayFrom p (climbOf k used root q s)) (λ f. astray f) (aboveOf used p s)) ≡ up ps → Risen (suc k) used root p s ps
+      by-root : ((q : ℕ) (qs : List ℕ) → climbOf s used root q k ≡ up qs → Risen k used root q s qs) → (b : Bool) → eqb p root ≡ b
+          → pick b (rootWay s p) (onAbove (λ q. wayFrom p (climbOf s used root q k)) (λ f. astray f) (aboveOf s used p)) ≡ up ps → Risen (suc k) used root p s ps
       by-root ih true q u = root-risen (suc k) p (eqb-true p root q) u
-      by-root ih false q u = by-above ih (eqb-false p root q) (aboveOf used p s) refl u
+      by-root ih false q u = by-above ih (eqb-false p root q) (aboveOf s used p) refl u
 
   rises-used : (p : ℕ) (l : List ℕ) → p < used → Rises used root p s l → (i : ℕ) → i < suc (length l) → getD (p ∷ l) i 0 < used
   rises-used p l h r zero b = h
@@ -308,7 +308,7 @@ pub record PathIs (used root p : ℕ) (s ps : List ℕ) : Type 0 where
   pub held-by : (i : ℕ) → i + 1 < length ps → Held used (getD ps i 0) (getD ps (i + 1) 0) s
   pub apart : (i j : ℕ) → i < j → j < length ps → getD ps j 0 ≡ getD ps i 0 → ⊥
 
-pub path-is : (used root p : ℕ) (s : List ℕ) {ps : List ℕ} → p < used → climbOf 3 used root p s ≡ up ps → PathIs used root p s ps
+pub path-is : (used root p : ℕ) (s : List ℕ) {ps : List ℕ} → p < used → climbOf s used root p 3 ≡ up ps → PathIs used root p s ps
 path-is used root p s {ps} h e =
     let r = climb-risen used root s 3 p {ps = ps} e in
     subst (λ (l : List ℕ). PathIs used root p s l) (sym (r .is)) (of-risen (r .above) (r .few) (r .rises))

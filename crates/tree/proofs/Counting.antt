@@ -97,11 +97,11 @@ module _ {A : Type 0} (look : A → ℕ → List ℕ → Seen A) (used : ℕ) (s
 
   -- the page is not in use; or the walk ends there; or it goes on
   data View (a : A) (p : ℕ) : Type 0 where
-    out : used ≤ p → ((m : ℕ) → along look used (suc m) a p s ≡ ill (structural p)) → ((m : ℕ) → meets look used (suc m) a p s ≡ []) → View a p
-    last : (t : Told A) → p < used → (turn (look a p (page p s)) ≡ 1 → (next p ≡ 0 → ⊥) → ⊥) → ((m : ℕ) → along look used (suc m) a p s ≡ t)
-        → ((m : ℕ) → meets look used (suc m) a p s ≡ p ∷ []) → View a p
-    on : (b : A) → p < used → turn (look a p (page p s)) ≡ 1 → (next p ≡ 0 → ⊥) → ((m : ℕ) → along look used (suc m) a p s ≡ along look used m b (next p) s)
-        → ((m : ℕ) → meets look used (suc m) a p s ≡ p ∷ meets look used m b (next p) s) → View a p
+    out : used ≤ p → ((m : ℕ) → along s used p look (suc m) a ≡ ill (structural p)) → ((m : ℕ) → meets s used p look (suc m) a ≡ []) → View a p
+    last : (t : Told A) → p < used → (turn (look a p (page p s)) ≡ 1 → (next p ≡ 0 → ⊥) → ⊥) → ((m : ℕ) → along s used p look (suc m) a ≡ t)
+        → ((m : ℕ) → meets s used p look (suc m) a ≡ p ∷ []) → View a p
+    on : (b : A) → p < used → turn (look a p (page p s)) ≡ 1 → (next p ≡ 0 → ⊥) → ((m : ℕ) → along s used p look (suc m) a ≡ along s used (next p) look m b)
+        → ((m : ℕ) → meets s used p look (suc m) a ≡ p ∷ meets s used (next p) look m b) → View a p
 
   view : (a : A) (p : ℕ) → View a p
   unfolding along meets
@@ -114,39 +114,39 @@ module _ {A : Type 0} (look : A → ℕ → List ℕ → Seen A) (used : ℕ) (s
       by-tests true l (go b) q true e = last (ok b) (ltb-true p used l) (λ t n. n (eqb-true (next p) 0 e)) (λ m. rw (l, q, e)) (λ m. rw (l, q, e))
       by-tests true l (go b) q false e = on b (ltb-true p used l) (rw q) (eqb-false (next p) 0 e) (λ m. rw (l, q, e)) (λ m. rw (l, q, e))
 
-  met-below : (m : ℕ) (a : A) (p : ℕ) → AllBelow used (meets look used m a p s)
+  met-below : (m : ℕ) (a : A) (p : ℕ) → AllBelow used (meets s used p look m a)
   unfolding meets
   met-below zero a p = tt
   met-below (suc m) a p = by-view (view a p) (λ b. met-below m b (next p))
     where
-      by-view : View a p → ((b : A) → AllBelow used (meets look used m b (next p) s)) → AllBelow used (meets look used (suc m) a p s)
+      by-view : View a p → ((b : A) → AllBelow used (meets s used (next p) look m b)) → AllBelow used (meets s used p look (suc m) a)
       by-view (out h w v) ih = subst (AllBelow used) (sym (v m)) tt
       by-view (last t h n w v) ih = subst (AllBelow used) (sym (v m)) (h, tt)
       by-view (on b h g n w v) ih = subst (AllBelow used) (sym (v m)) (h, ih b)
 
   -- where at most k pages are met, k is enough
-  along-same : (k m : ℕ) (a : A) (p : ℕ) → k ≤ m → length (meets look used m a p s) ≤ k → along look used m a p s ≡ along look used k a p s
+  along-same : (k m : ℕ) (a : A) (p : ℕ) → k ≤ m → length (meets s used p look m a) ≤ k → along s used p look m a ≡ along s used p look k a
   unfolding along
   along-same zero zero a p h l = refl
   along-same (suc k) zero a p h l = absurd (omega arith)
   along-same zero (suc m) a p h l = by-view (view a p)
     where
-      by-view : View a p → along look used (suc m) a p s ≡ ill (structural p)
+      by-view : View a p → along s used p look (suc m) a ≡ ill (structural p)
       by-view (out h w v) = w m
-      by-view (last t h n w v) = absurd (let e : length (meets look used (suc m) a p s) ≡ 1 = ap length (v m) in omega arith)
-      by-view (on b h g n w v) = absurd (let e : length (meets look used (suc m) a p s) ≡ suc (length (meets look used m b (next p) s)) = ap length (v m) in omega arith)
+      by-view (last t h n w v) = absurd (let e : length (meets s used p look (suc m) a) ≡ 1 = ap length (v m) in omega arith)
+      by-view (on b h g n w v) = absurd (let e : length (meets s used p look (suc m) a) ≡ suc (length (meets s used (next p) look m b)) = ap length (v m) in omega arith)
   along-same (suc k) (suc m) a p h l = by-view (view a p) (λ b i. along-same k m b (next p) (omega arith) i)
     where
-      by-view : View a p → ((b : A) → length (meets look used m b (next p) s) ≤ k → along look used m b (next p) s ≡ along look used k b (next p) s)
-          → along look used (suc m) a p s ≡ along look used (suc k) a p s
+      by-view : View a p → ((b : A) → length (meets s used (next p) look m b) ≤ k → along s used (next p) look m b ≡ along s used (next p) look k b)
+          → along s used p look (suc m) a ≡ along s used p look (suc k) a
       by-view (out h w v) ih = w m ∙ sym (w k)
       by-view (last t h n w v) ih = w m ∙ sym (w k)
       by-view (on b h g n w v) ih =
-          let e : length (meets look used (suc m) a p s) ≡ suc (length (meets look used m b (next p) s)) = ap length (v m) in
+          let e : length (meets s used p look (suc m) a) ≡ suc (length (meets s used (next p) look m b)) = ap length (v m) in
           w m ∙ (ih b (omega arith) ∙ sym (w k))
 
 pub count-is-enough : (A : Type 0) → CountIsEnough A
-count-is-enough A look used m a p s h d = along-same look used s used m a p h (pigeonhole used (meets look used m a p s) (met-below look used s m a p) d)
+count-is-enough A look used m a p s h d = along-same look used s used m a p h (pigeonhole used (meets s used p look m a) (met-below look used s m a p) d)
 
 -- ---- a walk that comes back
 
@@ -166,18 +166,18 @@ module _ {A : Type 0} (look : A → ℕ → List ℕ → Seen A) (steady : Stead
   runs-less zero p r = tt
   runs-less (suc k) p r = (r .0, runs-less k (nextLeaf (page p s)) (r .1))
 
-  runs-ill : (k : ℕ) (a : A) (p : ℕ) → Runs k p → Ill (along look used k a p s)
+  runs-ill : (k : ℕ) (a : A) (p : ℕ) → Runs k p → Ill (along s used p look k a)
   unfolding along
   runs-ill zero a p r = record { fault = structural p; is = refl }
   runs-ill (suc k) a p r = by-view (view look used s a p) (λ b. runs-ill k b (nextLeaf (page p s)) (r .1))
     where
-      by-view : View look used s a p → ((b : A) → Ill (along look used k b (nextLeaf (page p s)) s)) → Ill (along look used (suc k) a p s)
+      by-view : View look used s a p → ((b : A) → Ill (along s used (nextLeaf (page p s)) look k b)) → Ill (along s used p look (suc k) a)
       by-view (out h w v) ih = absurd (let g = r .0 .in-use in omega arith)
       by-view (last t h n w v) ih = absurd (n (r .0 .turns a) (r .0 .more))
       by-view (on b h g n w v) ih = record { fault = ih b .fault; is = w k ∙ ih b .is }
 
   -- a page that is met runs no longer than the page where the walk began
-  met-runs : (m : ℕ) (a : A) (p x : ℕ) → mem x (meets look used m a p s) ≡ true → (k : ℕ) → Runs k x → Runs k p
+  met-runs : (m : ℕ) (a : A) (p x : ℕ) → mem x (meets s used p look m a) ≡ true → (k : ℕ) → Runs k x → Runs k p
   unfolding mem meets
   met-runs zero a p x e k r = absurd (let z : _≡_ {A = ℕ} 0 1 = cc in omega arith)
   met-runs (suc m) a p x e k r = by-view (view look used s a p) (λ b i. met-runs m b (nextLeaf (page p s)) x i k r)
@@ -186,11 +186,11 @@ module _ {A : Type 0} (look : A → ℕ → List ℕ → Seen A) (steady : Stead
       by-test true q l ih u = subst (Runs k) (sym (eqb-true p x q)) r
       by-test false q l ih u = ih u
 
-      by-view : View look used s a p → ((b : A) → mem x (meets look used m b (nextLeaf (page p s)) s) ≡ true → Runs k (nextLeaf (page p s))) → Runs k p
+      by-view : View look used s a p → ((b : A) → mem x (meets s used (nextLeaf (page p s)) look m b) ≡ true → Runs k (nextLeaf (page p s))) → Runs k p
       by-view (out h w v) ih = absurd (let z : _≡_ {A = Bool} false true = ap (mem x) (sym (v m)) ∙ e in let y : _≡_ {A = ℕ} 0 1 = cc in omega arith)
       by-view (last t h n w v) ih = by-test (eqb p x) refl [] (λ u. absurd (let z : _≡_ {A = ℕ} 0 1 = cc in omega arith)) (ap (mem x) (sym (v m)) ∙ e)
       by-view (on b h g n w v) ih =
-          by-test (eqb p x) refl (meets look used m b (nextLeaf (page p s)) s)
+          by-test (eqb p x) refl (meets s used (nextLeaf (page p s)) look m b)
           (λ u. runs-less k p (record { in-use = h; turns = λ c. steady c a p (page p s) ∙ g; more = n }, ih b u))
           (ap (mem x) (sym (v m)) ∙ e)
 
@@ -198,22 +198,22 @@ module _ {A : Type 0} (look : A → ℕ → List ℕ → Seen A) (steady : Stead
   back-runs p g f zero = tt
   back-runs p g f (suc k) = (g, f k (back-runs p g f k))
 
-  twice-runs : (m : ℕ) (a : A) (p : ℕ) → distinct (meets look used m a p s) ≡ false → (k : ℕ) → Runs k p
+  twice-runs : (m : ℕ) (a : A) (p : ℕ) → distinct (meets s used p look m a) ≡ false → (k : ℕ) → Runs k p
   unfolding distinct mem meets
   twice-runs zero a p e = absurd (let z : _≡_ {A = ℕ} 0 1 = cc in omega arith)
   twice-runs (suc m) a p e = by-view (view look used s a p) (λ b i. twice-runs m b (nextLeaf (page p s)) i)
     where
-      by-mem : Goes p → (b : A) (t : Bool) → mem p (meets look used m b (nextLeaf (page p s)) s) ≡ t
-          → (distinct (meets look used m b (nextLeaf (page p s)) s) ≡ false → (k : ℕ) → Runs k (nextLeaf (page p s)))
-          → (not t && distinct (meets look used m b (nextLeaf (page p s)) s)) ≡ false → (k : ℕ) → Runs k p
+      by-mem : Goes p → (b : A) (t : Bool) → mem p (meets s used (nextLeaf (page p s)) look m b) ≡ t
+          → (distinct (meets s used (nextLeaf (page p s)) look m b) ≡ false → (k : ℕ) → Runs k (nextLeaf (page p s)))
+          → (not t && distinct (meets s used (nextLeaf (page p s)) look m b)) ≡ false → (k : ℕ) → Runs k p
       by-mem g b true q ih u k = back-runs p g (met-runs m b (nextLeaf (page p s)) p q) k
       by-mem g b false q ih u k = runs-less k p (g, ih u k)
 
-      by-view : View look used s a p → ((b : A) → distinct (meets look used m b (nextLeaf (page p s)) s) ≡ false → (k : ℕ) → Runs k (nextLeaf (page p s))) → (k : ℕ) → Runs k p
+      by-view : View look used s a p → ((b : A) → distinct (meets s used (nextLeaf (page p s)) look m b) ≡ false → (k : ℕ) → Runs k (nextLeaf (page p s))) → (k : ℕ) → Runs k p
       by-view (out h w v) ih = absurd (let z : _≡_ {A = Bool} true false = ap distinct (sym (v m)) ∙ e in let y : _≡_ {A = ℕ} 0 1 = cc in omega arith)
       by-view (last t h n w v) ih = absurd (let z : _≡_ {A = Bool} true false = ap distinct (sym (v m)) ∙ e in let y : _≡_ {A = ℕ} 0 1 = cc in omega arith)
       by-view (on b h g n w v) ih =
-          by-mem (record { in-use = h; turns = λ c. steady c a p (page p s) ∙ g; more = n }) b (mem p (meets look used m b (nextLeaf (page p s)) s)) refl (ih b) (ap distinct (sym (v m)) ∙ e)
+          by-mem (record { in-use = h; turns = λ c. steady c a p (page p s) ∙ g; more = n }) b (mem p (meets s used (nextLeaf (page p s)) look m b)) refl (ih b) (ap distinct (sym (v m)) ∙ e)
 
 pub twice-is-ill : (A : Type 0) → TwiceIsIll A
 twice-is-ill A look steady used m a p s d = runs-ill look steady used s used a p (twice-runs look steady used s m a p d used)

@@ -80,25 +80,25 @@ module _ (s : List ℕ) (used p : ℕ) (h : p < used) where
         by-judged (Judged.Bad f) q = absurd (let z : _≡_ {A = ℕ} 0 1 = cc in omega arith)
 
 module _ (sn : Snapshot) (st : ℕ → ℕ) (used key : ℕ) (s : List ℕ) where
-  along-in : (m : ℕ) (a : Best) (p : ℕ) {b : Best} → along (lookBest key sn st) used m a p s ≡ ok b → BestIn s used a → BestIn s used b
+  along-in : (m : ℕ) (a : Best) (p : ℕ) {b : Best} → along s used p (lookBest key sn st) m a ≡ ok b → BestIn s used a → BestIn s used b
   unfolding along
   along-in zero a p e i = absurd (let z : _≡_ {A = ℕ} 0 1 = cc in omega arith)
   along-in (suc m) a p {b} e i = by-use (ltb p used) refl (λ d n q j. along-in m d n q j) e
     where
-      by-next : ((d : Best) (n : ℕ) → along (lookBest key sn st) used m d n s ≡ ok b → BestIn s used d → BestIn s used b) → (t : Bool) (d : Best) → BestIn s used d → pick t (ok d) (along (lookBest key sn st) used m d (nextLeaf (page p s)) s) ≡ ok b → BestIn s used b
+      by-next : ((d : Best) (n : ℕ) → along s used n (lookBest key sn st) m d ≡ ok b → BestIn s used d → BestIn s used b) → (t : Bool) (d : Best) → BestIn s used d → pick t (ok d) (along s used (nextLeaf (page p s)) (lookBest key sn st) m d) ≡ ok b → BestIn s used b
       by-next ih true d j q = let u : d ≡ b = cc in subst (BestIn s used) u j
       by-next ih false d j q = ih d (nextLeaf (page p s)) q j
 
-      by-leaf : ((d : Best) (n : ℕ) → along (lookBest key sn st) used m d n s ≡ ok b → BestIn s used d → BestIn s used b) → p < used → (r : LeafBest) → findLeaf (page p s) p key sn st a ≡ r
-          → onSeen (λ d. ok d) (λ d. pick (eqb (nextLeaf (page p s)) 0) (ok d) (along (lookBest key sn st) used m d (nextLeaf (page p s)) s)) (λ f. ill f) (seenBest r) ≡ ok b
+      by-leaf : ((d : Best) (n : ℕ) → along s used n (lookBest key sn st) m d ≡ ok b → BestIn s used d → BestIn s used b) → p < used → (r : LeafBest) → findLeaf (page p s) p key sn st a ≡ r
+          → onSeen (λ d. ok d) (λ d. pick (eqb (nextLeaf (page p s)) 0) (ok d) (along s used (nextLeaf (page p s)) (lookBest key sn st) m d)) (λ f. ill f) (seenBest r) ≡ ok b
           → BestIn s used b
       by-leaf ih h (LeafBest.Ok d true) f q = let u : d ≡ b = cc in subst (BestIn s used) u (find-in s used p h sn st key a f i)
       by-leaf ih h (LeafBest.Ok d false) f q = by-next ih (eqb (nextLeaf (page p s)) 0) d (find-in s used p h sn st key a f i) q
       by-leaf ih h (LeafBest.Bad g) f q = absurd (let z : _≡_ {A = ℕ} 0 1 = cc in omega arith)
 
-      by-use : (t : Bool) → ltb p used ≡ t → ((d : Best) (n : ℕ) → along (lookBest key sn st) used m d n s ≡ ok b → BestIn s used d → BestIn s used b)
+      by-use : (t : Bool) → ltb p used ≡ t → ((d : Best) (n : ℕ) → along s used n (lookBest key sn st) m d ≡ ok b → BestIn s used d → BestIn s used b)
           → pick t
-          (onSeen (λ d. ok d) (λ d. pick (eqb (nextLeaf (page p s)) 0) (ok d) (along (lookBest key sn st) used m d (nextLeaf (page p s)) s)) (λ f. ill f)
+          (onSeen (λ d. ok d) (λ d. pick (eqb (nextLeaf (page p s)) 0) (ok d) (along s used (nextLeaf (page p s)) (lookBest key sn st) m d)) (λ f. ill f)
           (lookBest key sn st a p (page p s)))
           (ill (structural p))
           ≡ ok b
@@ -109,8 +109,8 @@ module _ (sn : Snapshot) (st : ℕ → ℕ) (used key : ℕ) (s : List ℕ) wher
   -- what a lookup finds
   pub best-in : (p : ℕ) {q : ℕ} {c : Cell} → bestAlong s used p key sn st ≡ ChainBest.Ok (Best.At q c) → FoundIn s used q c
   unfolding bestAlong
-  best-in p {q} {c} e = by-told (along (lookBest key sn st) used used Best.Nothing p s) refl e
+  best-in p {q} {c} e = by-told (along s used p (lookBest key sn st) used Best.Nothing) refl e
     where
-      by-told : (t : Told Best) → along (lookBest key sn st) used used Best.Nothing p s ≡ t → toldBest t ≡ ChainBest.Ok (Best.At q c) → FoundIn s used q c
+      by-told : (t : Told Best) → along s used p (lookBest key sn st) used Best.Nothing ≡ t → toldBest t ≡ ChainBest.Ok (Best.At q c) → FoundIn s used q c
       by-told (ok b) f u = let v : b ≡ Best.At q c = cc in along-in used Best.Nothing p (f ∙ ap (λ (x : Best). ok x) v) tt
       by-told (ill g) f u = absurd (let z : _≡_ {A = ℕ} 0 1 = cc in omega arith)

@@ -21,7 +21,7 @@ use Rattle.row.proofs.Exact.{cell-placed}
 use Rattle.tree.proofs.Found.{FoundIn, best-in}
 
 module _ (sn : Snapshot) (st : ℕ → ℕ) (used root key : ℕ) (s : List ℕ) where
-  module _ {d : Descent} (way : d ≡ descendOf 3 (Route.Search key) used root s) where
+  module _ {d : Descent} (way : d ≡ descendOf s used root (Route.Search key) 3) where
     pub best-lost : {f : Fault} → d ≡ Descent.Bad f → ChainBest.Bad f ≡ bestInTree s used root key sn st
     unfolding bestInTree
     best-lost e = rw (sym way ∙ e)
@@ -43,7 +43,7 @@ module _ (sn : Snapshot) (st : ℕ → ℕ) (used root key : ℕ) (s : List ℕ)
   -- what a lookup found
   pub found-in : {p : ℕ} {c : Cell} → bestInTree s used root key sn st ≡ ChainBest.Ok (Best.At p c) → FoundIn s used p c
   unfolding bestInTree
-  found-in {p} {c} e = by-way (descendOf 3 (Route.Search key) used root s) e
+  found-in {p} {c} e = by-way (descendOf s used root (Route.Search key) 3) e
     where
       by-way : (d : Descent) → onLeaf (λ q. bestAlong s used q key sn st) (λ f. ChainBest.Bad f) d ≡ ChainBest.Ok (Best.At p c) → FoundIn s used p c
       by-way (Descent.Leaf q) u = best-in sn st used key s q u

@@ -64,13 +64,13 @@ module _ (s : List ℕ) (p n : ℕ) {pg : List ℕ} {route : Route} (here : pg �
 -- ---- the way down
 
 module _ (route : Route) (used p : ℕ) (s : List ℕ) where
-  pub way-unused : (k : ℕ) {f : Fault} → used ≤ p → f ≡ structural p → Descent.Bad f ≡ descendOf k route used p s
+  pub way-unused : (k : ℕ) {f : Fault} → used ≤ p → f ≡ structural p → Descent.Bad f ≡ descendOf s used p route k
   unfolding descendOf
   way-unused zero h e = rw (le-ltb p used h, e)
   way-unused (suc k) h e = rw (le-ltb p used h, e)
 
   module _ {pg : List ℕ} {t : ℕ} (h : p < used) (here : pg ≡ page p s) (kind : t ≡ nodeType pg) where
-    pub way-leaf : (k : ℕ) → t ≡ 1 → Descent.Leaf p ≡ descendOf k route used p s
+    pub way-leaf : (k : ℕ) → t ≡ 1 → Descent.Leaf p ≡ descendOf s used p route k
     unfolding descendOf
     way-leaf zero e = rw (lt-ltb p used h, eq-eqb (nodeType (page p s)) 1 (rw (kind, here) at e))
     way-leaf (suc k) e = rw (lt-ltb p used h, eq-eqb (nodeType (page p s)) 1 (rw (kind, here) at e))
@@ -79,18 +79,18 @@ module _ (route : Route) (used p : ℕ) (s : List ℕ) where
       not-leaf : eqb (nodeType (page p s)) 1 ≡ false
       not-leaf = ne-eqb (nodeType (page p s)) 1 (λ e. other (kind ∙ rw here e))
 
-      pub way-deep : (k : ℕ) {f : Fault} → k ≡ 0 → f ≡ structural p → Descent.Bad f ≡ descendOf k route used p s
+      pub way-deep : (k : ℕ) {f : Fault} → k ≡ 0 → f ≡ structural p → Descent.Bad f ≡ descendOf s used p route k
       unfolding descendOf
       way-deep zero z e = rw (lt-ltb p used h, not-leaf, e)
       way-deep (suc k) z e = absurd (omega arith)
 
-      pub way-bad : (k : ℕ) {r : InnerJudged} {f : Fault} → (k ≡ 0 → ⊥) → r ≡ judgeInner p pg → r ≡ InnerJudged.Bad f → Descent.Bad f ≡ descendOf k route used p s
+      pub way-bad : (k : ℕ) {r : InnerJudged} {f : Fault} → (k ≡ 0 → ⊥) → r ≡ judgeInner p pg → r ≡ InnerJudged.Bad f → Descent.Bad f ≡ descendOf s used p route k
       unfolding descendOf
       way-bad zero z e q = absurd (z refl)
       way-bad (suc k) z e q = rw (lt-ltb p used h, not-leaf, ← here, sym e ∙ q)
 
       pub way-on : (k : ℕ) {r : InnerJudged} {n q : ℕ} → (k ≡ 0 → ⊥) → r ≡ judgeInner p pg → r ≡ InnerJudged.Ok n → q ≡ childOf route p n s
-          → descendOf (k - 1) route used q s ≡ descendOf k route used p s
+          → descendOf s used q route (k - 1) ≡ descendOf s used p route k
       unfolding descendOf
       way-on zero z e u c = absurd (z refl)
       way-on (suc k) {r} {n} {q} z e u c =
@@ -101,33 +101,33 @@ module _ (route : Route) (used p : ℕ) (s : List ℕ) where
 -- ---- along the chain
 
 module _ {A : Type 0} (look : A → ℕ → List ℕ → Seen A) (used : ℕ) (a : A) (p : ℕ) (s : List ℕ) where
-  pub along-again : (m : ℕ) {f : Fault} → m ≤ 0 → f ≡ structural p → ill f ≡ along look used m a p s
+  pub along-again : (m : ℕ) {f : Fault} → m ≤ 0 → f ≡ structural p → ill f ≡ along s used p look m a
   unfolding along
   along-again zero h e = rw e
   along-again (suc m) h e = absurd (omega arith)
 
-  pub along-unused : (m : ℕ) {f : Fault} → 0 < m → used ≤ p → f ≡ structural p → ill f ≡ along look used m a p s
+  pub along-unused : (m : ℕ) {f : Fault} → 0 < m → used ≤ p → f ≡ structural p → ill f ≡ along s used p look m a
   unfolding along
   along-unused zero z h e = absurd (omega arith)
   along-unused (suc m) z h e = rw (le-ltb p used h, e)
 
   module _ {pg : List ℕ} (h : p < used) (here : pg ≡ page p s) where
-    pub along-bad : (m : ℕ) {f : Fault} → 0 < m → look a p pg ≡ broken f → ill f ≡ along look used m a p s
+    pub along-bad : (m : ℕ) {f : Fault} → 0 < m → look a p pg ≡ broken f → ill f ≡ along s used p look m a
     unfolding along
     along-bad zero z e = absurd (omega arith)
     along-bad (suc m) z e = rw (lt-ltb p used h, ← here, e)
 
-    pub along-last : (m : ℕ) {b : A} → 0 < m → look a p pg ≡ stop b → ok b ≡ along look used m a p s
+    pub along-last : (m : ℕ) {b : A} → 0 < m → look a p pg ≡ stop b → ok b ≡ along s used p look m a
     unfolding along
     along-last zero z e = absurd (omega arith)
     along-last (suc m) z e = rw (lt-ltb p used h, ← here, e)
 
-    pub along-end : (m : ℕ) {b : A} {n : ℕ} → 0 < m → look a p pg ≡ go b → n ≡ nextLeaf pg → n ≡ 0 → ok b ≡ along look used m a p s
+    pub along-end : (m : ℕ) {b : A} {n : ℕ} → 0 < m → look a p pg ≡ go b → n ≡ nextLeaf pg → n ≡ 0 → ok b ≡ along s used p look m a
     unfolding along
     along-end zero z e q t = absurd (omega arith)
     along-end (suc m) z e q t = rw (lt-ltb p used h, ← here, e, eq-eqb (nextLeaf pg) 0 (sym q ∙ t))
 
-    pub along-on : (m : ℕ) {b : A} {n : ℕ} → 0 < m → look a p pg ≡ go b → n ≡ nextLeaf pg → (n ≡ 0 → ⊥) → along look used (m - 1) b n s ≡ along look used m a p s
+    pub along-on : (m : ℕ) {b : A} {n : ℕ} → 0 < m → look a p pg ≡ go b → n ≡ nextLeaf pg → (n ≡ 0 → ⊥) → along s used n look (m - 1) b ≡ along s used p look m a
     unfolding along
     along-on zero z e q t = absurd (omega arith)
     along-on (suc m) z e q t =

@@ -35,11 +35,11 @@ onSeen last more bad (go a) = more a
 onSeen last more bad (broken f) = bad f
 
 -- from page p, m pages left to meet; a says what was gathered so far
-unfoldable pub along : {A : Type 0} → (A → ℕ → List ℕ → Seen A) → (used m : ℕ) → A → ℕ → List ℕ → Told A
-along look used zero a p s = ill (structural p)
-along look used (suc m) a p s =
+unfoldable pub along : {A : Type 0} → List ℕ → (used : ℕ) → ℕ → (A → ℕ → List ℕ → Seen A) → (m : ℕ) → A → Told A
+along s used p look zero a = ill (structural p)
+along s used p look (suc m) a =
     pick (ltb p used)
-    (onSeen (λ b. ok b) (λ b. pick (eqb (nextLeaf (page p s)) 0) (ok b) (along look used m b (nextLeaf (page p s)) s)) (λ f. ill f) (look a p (page p s)))
+    (onSeen (λ b. ok b) (λ b. pick (eqb (nextLeaf (page p s)) 0) (ok b) (along s used (nextLeaf (page p s)) look m b)) (λ f. ill f) (look a p (page p s)))
     (ill (structural p))
 
 -- ---- lookup: the newest visible version of the key
@@ -57,7 +57,7 @@ abbrev pub lookBest : (key : ℕ) → Snapshot → (ℕ → ℕ) → Best → �
 lookBest key sn st best p pg = seenBest (findLeaf pg p key sn st best)
 
 unfoldable pub bestAlong : List ℕ → (used p key : ℕ) → Snapshot → (ℕ → ℕ) → ChainBest
-bestAlong s used p key sn st = toldBest (along (lookBest key sn st) used used Best.Nothing p s)
+bestAlong s used p key sn st = toldBest (along s used p (lookBest key sn st) used Best.Nothing)
 
 -- ---- conflict: whether some version of the key meets the test
 
@@ -74,4 +74,4 @@ abbrev pub lookTest : (key : ℕ) → Snapshot → (ℕ → ℕ) → Bool → (s
 lookTest key sn st claiming seen found p pg = seenTest (testLeaf pg p key sn st claiming seen found)
 
 unfoldable pub testAlong : List ℕ → (used p key : ℕ) → Snapshot → (ℕ → ℕ) → Bool → (seen : ℕ) → ChainTest
-testAlong s used p key sn st claiming seen = toldTest (along (lookTest key sn st claiming seen) used used false p s)
+testAlong s used p key sn st claiming seen = toldTest (along s used p (lookTest key sn st claiming seen) used false)

@@ -14,11 +14,11 @@ use Rattle.tree.specs.Distinct.{distinct}
 use Rattle.tree.specs.Chain.{Seen, Told, ill, onSeen, along}
 
 -- the pages that a walk meets, m at most
-unfoldable pub meets : {A : Type 0} → (A → ℕ → List ℕ → Seen A) → (used m : ℕ) → A → ℕ → List ℕ → List ℕ
-meets look used zero a p s = []
-meets look used (suc m) a p s =
+unfoldable pub meets : {A : Type 0} → List ℕ → (used : ℕ) → ℕ → (A → ℕ → List ℕ → Seen A) → (m : ℕ) → A → List ℕ
+meets s used p look zero a = []
+meets s used p look (suc m) a =
     pick (ltb p used)
-    (p ∷ onSeen (λ b. []) (λ b. pick (eqb (nextLeaf (page p s)) 0) [] (meets look used m b (nextLeaf (page p s)) s)) (λ f. []) (look a p (page p s)))
+    (p ∷ onSeen (λ b. []) (λ b. pick (eqb (nextLeaf (page p s)) 0) [] (meets s used (nextLeaf (page p s)) look m b)) (λ f. []) (look a p (page p s)))
     []
 
 -- what a leaf says of going on: 0 the walk ends, 1 it goes on, 2 a fault
@@ -32,8 +32,8 @@ Steady {A} look = (a b : A) (p : ℕ) (pg : List ℕ) → turn (look a p pg) ≡
 -- where no page is met twice, however long the walk, the count never ends it
 abbrev pub CountIsEnough : Type 0 → Type 0
 CountIsEnough A =
-    (look : A → ℕ → List ℕ → Seen A) (used m : ℕ) (a : A) (p : ℕ) (s : List ℕ) → used ≤ m → distinct (meets look used m a p s) ≡ true
-    → along look used m a p s ≡ along look used used a p s
+    (look : A → ℕ → List ℕ → Seen A) (used m : ℕ) (a : A) (p : ℕ) (s : List ℕ) → used ≤ m → distinct (meets s used p look m a) ≡ true
+    → along s used p look m a ≡ along s used p look used a
 
 -- where some walk meets a page twice, the answer is a fault
 pub record Ill {A : Type 0} (t : Told A) : Type 0 where
@@ -43,4 +43,4 @@ pub record Ill {A : Type 0} (t : Told A) : Type 0 where
 abbrev pub TwiceIsIll : Type 0 → Type 0
 TwiceIsIll A =
     (look : A → ℕ → List ℕ → Seen A) → Steady look → (used m : ℕ) (a : A) (p : ℕ) (s : List ℕ)
-    → distinct (meets look used m a p s) ≡ false → Ill (along look used used a p s)
+    → distinct (meets s used p look m a) ≡ false → Ill (along s used p look used a)

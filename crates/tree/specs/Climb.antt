@@ -20,15 +20,15 @@ use Rattle.tree.specs.declared.climb.Climbed.{Climbed}
 use Rattle.tree.specs.declared.climb.Above.{Above}
 
 -- q, the parent that page p names, is in use, internal, judged, and holds p
-unfoldable pub aboveFrom : (used p q : ℕ) → List ℕ → Above
-aboveFrom used p q s =
+unfoldable pub aboveFrom : List ℕ → (used p q : ℕ) → Above
+aboveFrom s used p q =
     pick (ltb q used)
     (onInner (λ n. pick (ltb (childPlace p (childrenFrom 0 (n + 1) (page q s))) (n + 1)) (Above.Page q) (Above.Bad (structural q))) (λ f. Above.Bad f)
     (judgeInner q (page q s)))
     (Above.Bad (structural q))
 
-abbrev pub aboveOf : (used p : ℕ) → List ℕ → Above
-aboveOf used p s = aboveFrom used p (parentOf (page p s)) s
+abbrev pub aboveOf : List ℕ → (used p : ℕ) → Above
+aboveOf s used p = aboveFrom s used p (parentOf (page p s))
 
 abbrev pub onAbove : {A : Type 0} → (ℕ → A) → (Fault → A) → Above → A
 onAbove good ill (Above.Page q) = good q
@@ -44,13 +44,13 @@ wayFrom p (up ps) = up (p ∷ ps)
 wayFrom p (astray f) = astray f
 
 -- "the root's parent must be 0"
-abbrev pub rootWay : ℕ → List ℕ → Way
-rootWay p s = pick (eqb (parentOf (page p s)) 0) (up (p ∷ [])) (astray (structural p))
+abbrev pub rootWay : List ℕ → ℕ → Way
+rootWay s p = pick (eqb (parentOf (page p s)) 0) (up (p ∷ [])) (astray (structural p))
 
 -- from page p, with k more levels above it at most
-unfoldable pub climbOf : (k : ℕ) → (used root p : ℕ) → List ℕ → Way
-climbOf zero used root p s = pick (eqb p root) (rootWay p s) (astray (structural p))
-climbOf (suc k) used root p s = pick (eqb p root) (rootWay p s) (onAbove (λ q. wayFrom p (climbOf k used root q s)) (λ f. astray f) (aboveOf used p s))
+unfoldable pub climbOf : List ℕ → (used root p k : ℕ) → Way
+climbOf s used root p zero = pick (eqb p root) (rootWay s p) (astray (structural p))
+climbOf s used root p (suc k) = pick (eqb p root) (rootWay s p) (onAbove (λ q. wayFrom p (climbOf s used root q k)) (λ f. astray f) (aboveOf s used p))
 
 -- the path as it is handed on: four places, the leaf's first
 abbrev pub pathOf : List ℕ → Path

@@ -29,12 +29,12 @@ abbrev pub childOf : Route → (p n : ℕ) → List ℕ → ℕ
 childOf route p n s = childAt (page p s) (turnOf route (keysFrom 0 n (page p s)))
 
 -- from page p, with k levels below it; an internal page on the last level is a fault of its own
-unfoldable pub descendOf : (k : ℕ) → Route → (used p : ℕ) → List ℕ → Descent
-descendOf zero route used p s = pick (ltb p used) (pick (eqb (nodeType (page p s)) nodeLeaf) (Descent.Leaf p) (Descent.Bad (structural p))) (Descent.Bad (structural p))
-descendOf (suc k) route used p s =
+unfoldable pub descendOf : List ℕ → (used p : ℕ) → Route → (k : ℕ) → Descent
+descendOf s used p route zero = pick (ltb p used) (pick (eqb (nodeType (page p s)) nodeLeaf) (Descent.Leaf p) (Descent.Bad (structural p))) (Descent.Bad (structural p))
+descendOf s used p route (suc k) =
     pick (ltb p used)
     (pick (eqb (nodeType (page p s)) nodeLeaf) (Descent.Leaf p)
-    (onInner (λ n. descendOf k route used (childOf route p n s) s) (λ f. Descent.Bad f) (judgeInner p (page p s))))
+    (onInner (λ n. descendOf s used (childOf route p n s) route k) (λ f. Descent.Bad f) (judgeInner p (page p s))))
     (Descent.Bad (structural p))
 
 -- go on from the leaf that it comes to

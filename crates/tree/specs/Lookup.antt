@@ -14,11 +14,11 @@ use Rattle.mvcc.specs.Snapshot.{Snapshot}
 
 unfoldable pub bestInTree : List ℕ → (used root key : ℕ) → Snapshot → (ℕ → ℕ) → ChainBest
 bestInTree s used root key sn st =
-    onLeaf (λ p. bestAlong s used p key sn st) (λ f. ChainBest.Bad f) (descendOf 3 (Route.Search key) used root s)
+    onLeaf (λ p. bestAlong s used p key sn st) (λ f. ChainBest.Bad f) (descendOf s used root (Route.Search key) 3)
 
 unfoldable pub testInTree : List ℕ → (used root key : ℕ) → Snapshot → (ℕ → ℕ) → Bool → (seen : ℕ) → ChainTest
 testInTree s used root key sn st claiming seen =
-    onLeaf (λ p. testAlong s used p key sn st claiming seen) (λ f. ChainTest.Bad f) (descendOf 3 (Route.Search key) used root s)
+    onLeaf (λ p. testAlong s used p key sn st claiming seen) (λ f. ChainTest.Bad f) (descendOf s used root (Route.Search key) 3)
 
 -- "A returned version's data is that part of the pool, given by start and length."
 abbrev pub inPool : ℕ → Cell → Version

@@ -29,7 +29,7 @@ pub enum Above {
 
 fn page_above(pool: &[u8], used: u32, p: u32) -> Above
     requires { ⌜ (used * 4096 ≤ length (now pool)) × (p < used) ⌝ }
-    ensures { λ r. ⌜ r ≡ aboveOf used p (now (pool .entry)) ⌝ }
+    ensures { λ r. ⌜ r ≡ aboveOf (now (pool .entry)) used p ⌝ }
 {
     let q = page::get_parent(page::pool::page_of(pool, p));
     if used <= q {
@@ -78,7 +78,7 @@ fn arrive(pool: &[u8], p: u32, path: Path) -> Climbed
 // The pages from a leaf up to the root, four at most, the leaf's first; or the fault that ends the climb.
 pub fn climb(pool: &[u8], used: u32, root: u32, leaf: u32) -> Climbed
     requires { ⌜ (used * 4096 ≤ length (now pool)) × (leaf < used) ⌝ }
-    ensures { λ r. ⌜ r ≡ climbed (climbOf 3 used root leaf (now (pool .entry))) ⌝ }
+    ensures { λ r. ⌜ r ≡ climbed (climbOf (now (pool .entry)) used root leaf 3) ⌝ }
 {
     let mut path = Path {
         pages: [0u32; 4],

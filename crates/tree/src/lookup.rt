@@ -20,7 +20,7 @@ use row::Version;
 // Where search comes to: left of an equal separator, so that older versions there are not lost.
 fn search_leaf(pool: &[u8], used: u32, root: u32, key: u32) -> Descent
     requires { ⌜ used * 4096 ≤ length (now pool) ⌝ }
-    ensures { λ r. ⌜ r ≡ descendOf 3 (Route.Search key) used root (now (pool .entry)) ⌝ }
+    ensures { λ r. ⌜ r ≡ descendOf (now (pool .entry)) used root (Route.Search key) 3 ⌝ }
 {
     crate::descend(pool, used, root, Route::Search(key))
 }

@@ -63,11 +63,11 @@ module _ (lo hi : ℕ) (pg : List ℕ) where
 -- ---- a leaf
 
 module _ (used parent p lo hi : ℕ) (s : List ℕ) where
-  pub leaf-unused : used ≤ p → false ≡ soundLeaf used parent p lo hi s
+  pub leaf-unused : used ≤ p → false ≡ soundLeaf s used parent p lo hi
   unfolding soundLeaf
   leaf-unused h = rw (le-ltb p used h)
 
-  pub leaf-used : {b : Bool} → b ≡ soundLeaf used parent p lo hi s → b ≡ true → p < used
+  pub leaf-used : {b : Bool} → b ≡ soundLeaf s used parent p lo hi → b ≡ true → p < used
   unfolding soundLeaf
   leaf-used e t = ltb-true p used (and-both (ltb p used) (eqb (parentOf (page p s)) parent && cellsWithin lo hi p (page p s)) (sym e ∙ t) .0)
 
@@ -82,11 +82,11 @@ module _ (used parent p lo hi : ℕ) (s : List ℕ) where
     parent-not : (q ≡ parent → ⊥) → eqb (parentOf (page p s)) parent ≡ false
     parent-not z = ne-eqb (parentOf (page p s)) parent (λ e. z (up ∙ rw here e))
 
-    pub leaf-orphan : (q ≡ parent → ⊥) → false ≡ soundLeaf used parent p lo hi s
+    pub leaf-orphan : (q ≡ parent → ⊥) → false ≡ soundLeaf s used parent p lo hi
     unfolding soundLeaf
     leaf-orphan z = rw (lt-ltb p used h, parent-not z)
 
-    pub leaf-cells : {b : Bool} → q ≡ parent → b ≡ cellsWithin lo hi p pg → b ≡ soundLeaf used parent p lo hi s
+    pub leaf-cells : {b : Bool} → q ≡ parent → b ≡ cellsWithin lo hi p pg → b ≡ soundLeaf s used parent p lo hi
     unfolding soundLeaf
     leaf-cells e t = t ∙ rw (lt-ltb p used h, parent-is e, here)
 
@@ -120,15 +120,15 @@ module _ (used parent p lo hi : ℕ) (s : List ℕ) where
 
 -- what the answer for an internal page says
 module _ (used parent p lo hi : ℕ) (s : List ℕ) {r : InnerSound} (said : r ≡ innerSound used parent p lo hi s) where
-  inner-ill : r ≡ InnerSound.Ill → soundInner used parent p lo hi s ≡ false
-  inner-ill e = by-test (soundInner used parent p lo hi s) (sym said ∙ e)
+  inner-ill : r ≡ InnerSound.Ill → soundInner s used parent p lo hi ≡ false
+  inner-ill e = by-test (soundInner s used parent p lo hi) (sym said ∙ e)
     where
       by-test : (b : Bool) → pick b (InnerSound.Ok (cellCount (page p s))) InnerSound.Ill ≡ InnerSound.Ill → b ≡ false
       by-test true u = absurd (let z : _≡_ {A = ℕ} 0 1 = cc in omega arith)
       by-test false u = refl
 
-  inner-well : {n : ℕ} → r ≡ InnerSound.Ok n → (soundInner used parent p lo hi s ≡ true) × (cellCount (page p s) ≡ n)
-  inner-well {n} e = by-test (soundInner used parent p lo hi s) (sym said ∙ e)
+  inner-well : {n : ℕ} → r ≡ InnerSound.Ok n → (soundInner s used parent p lo hi ≡ true) × (cellCount (page p s) ≡ n)
+  inner-well {n} e = by-test (soundInner s used parent p lo hi) (sym said ∙ e)
     where
       by-test : (b : Bool) → pick b (InnerSound.Ok (cellCount (page p s))) InnerSound.Ill ≡ InnerSound.Ok n → (b ≡ true) × (cellCount (page p s) ≡ n)
       by-test true u = (refl, cc)
@@ -155,7 +155,7 @@ module _ (used : ℕ) (s : List ℕ) (parent p lo hi next : ℕ) where
   pub check-last : (k : ℕ) {v : Verdict} → k ≡ 0 → v ≡ checkOf 0 used s parent p lo hi next → v ≡ checkOf k used s parent p lo hi next
   check-last k e q = q ∙ rw e
 
-  module _ {b : Bool} (said : b ≡ soundLeaf used parent p lo hi s) where
+  module _ {b : Bool} (said : b ≡ soundLeaf s used parent p lo hi) where
     pub check-unsound : b ≡ false → Verdict.Ill ≡ checkOf 0 used s parent p lo hi next
     unfolding checkOf
     check-unsound t = rw (sym said ∙ t)
@@ -208,18 +208,18 @@ module _ (f : ℕ → ℕ → ℕ → ℕ → Verdict) (lo hi next : ℕ) (pg : 
 -- with n numbers of levels, from k on
 unfoldable pub wellFrom : (n k used root : ℕ) → List ℕ → Bool
 wellFrom zero k used root s = false
-wellFrom (suc n) k used root s = wellAt k used root s || wellFrom n (k + 1) used root s
+wellFrom (suc n) k used root s = wellAt s used root k || wellFrom n (k + 1) used root s
 
 module _ (used root : ℕ) (s : List ℕ) where
-  pub well-all : wellFrom 4 0 used root s ≡ isWellFormed used root s
+  pub well-all : wellFrom 4 0 used root s ≡ isWellFormed s used root
   unfolding wellFrom isWellFormed
-  well-all = rw (or-false (wellAt 3 used root s))
+  well-all = rw (or-false (wellAt s used root 3))
 
   pub well-none : (n k : ℕ) → n ≡ 0 → false ≡ wellFrom n k used root s
   unfolding wellFrom
   well-none n k e = rw e
 
-  module _ (k m : ℕ) {n : ℕ} {v : Verdict} (left : n ≡ suc m) (said : isFirst v ≡ wellAt k used root s) where
+  module _ (k m : ℕ) {n : ℕ} {v : Verdict} (left : n ≡ suc m) (said : isFirst v ≡ wellAt s used root k) where
     pub well-here : {q : ℕ} → v ≡ Verdict.First q → true ≡ wellFrom n k used root s
     unfolding wellFrom
     well-here e = rw (left, sym said ∙ ap isFirst e)

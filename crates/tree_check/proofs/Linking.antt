@@ -170,8 +170,8 @@ check-told used s zero parent p lo hi next = refl
 check-told used s (suc k) parent p lo hi next =
     let all = kids-told s (page p s) (checkOf k used s p) (soundTree k used s p) (leavesOf k s) (leaves-some k s) (check-told used s k p) (cellCount (page p s)) lo hi next in
     let L = eachOf (leavesOf k s) (childrenOf (page p s)) in
-    ap (λ (v : Verdict). pick (soundInner used parent p lo hi s) v Verdict.Ill) (rw (← children-count (page p s)) at all)
-    ∙ pick-and (soundInner used parent p lo hi s) (soundKids (soundTree k used s p) lo hi (keysOf (page p s)) (childrenOf (page p s))) (linkedTo s next L) (Verdict.First (front L))
+    ap (λ (v : Verdict). pick (soundInner s used parent p lo hi) v Verdict.Ill) (rw (← children-count (page p s)) at all)
+    ∙ pick-and (soundInner s used parent p lo hi) (soundKids (soundTree k used s p) lo hi (keysOf (page p s)) (childrenOf (page p s))) (linkedTo s next L) (Verdict.First (front L))
 
 is-first : (t : Bool) (q : ℕ) → isFirst (pick t (Verdict.First q) Verdict.Ill) ≡ t
 is-first true q = refl

@@ -210,7 +210,7 @@ distinct-each f g lead (c ∷ cs) h d =
 
 -- ---- sound pages
 
-leaf-type : (used parent p lo hi : ℕ) (s : List ℕ) → soundLeaf used parent p lo hi s ≡ true → eqb (nodeType (page p s)) 0 ≡ false
+leaf-type : (used parent p lo hi : ℕ) (s : List ℕ) → soundLeaf s used parent p lo hi ≡ true → eqb (nodeType (page p s)) 0 ≡ false
 unfolding soundLeaf cellsWithin judgeLeaf
 leaf-type used parent p lo hi s e =
     let a = and-both (ltb p used) (eqb (parentOf (page p s)) parent && cellsWithin lo hi p (page p s)) e in
@@ -225,7 +225,7 @@ leaf-type used parent p lo hi s e =
     by-type true t q = let n = eqb-true (nodeType (page p s)) 1 t in ne-eqb (nodeType (page p s)) 0 (λ z. omega arith)
     by-type false t q = absurd (false≢true q)
 
-inner-type : (used parent p lo hi : ℕ) (s : List ℕ) → soundInner used parent p lo hi s ≡ true → eqb (nodeType (page p s)) 0 ≡ true
+inner-type : (used parent p lo hi : ℕ) (s : List ℕ) → soundInner s used parent p lo hi ≡ true → eqb (nodeType (page p s)) 0 ≡ true
 unfolding soundInner judgeInner
 inner-type used parent p lo hi s e =
     let a = and-both (ltb p used) (eqb (parentOf (page p s)) parent && onInner (λ n. allWithin lo hi (keysOf (page p s))) (λ f. false) (judgeInner p (page p s))) e in
@@ -275,7 +275,7 @@ record SoundPage (k used : ℕ) (s : List ℕ) (p : ℕ) : Type 0 where
 sound-page : (k used : ℕ) (s : List ℕ) (parent p lo hi : ℕ) → soundTree (suc k) used s parent p lo hi ≡ true → SoundPage k used s p
 unfolding soundTree
 sound-page k used s parent p lo hi e =
-    let a = and-both (soundInner used parent p lo hi s) (soundKids (soundTree k used s p) lo hi (keysOf (page p s)) (childrenOf (page p s))) e in
+    let a = and-both (soundInner s used parent p lo hi) (soundKids (soundTree k used s p) lo hi (keysOf (page p s)) (childrenOf (page p s))) e in
     let all : Each (SoundAt k used s p) (childrenOf (page p s)) =
     rw (children-count (page p s)) (sound-each (soundTree k used s p) (page p s) (cellCount (page p s)) 0 lo hi (rw (children-count (page p s)) at (a .1))) in
     record { is-inner = inner-type used parent p lo hi s (a .0); kids = all; first = subst (Each (SoundAt k used s p)) (children-are (page p s)) all .0 }

@@ -28,12 +28,12 @@ unfoldable pub cellsWithin : (lo hi p : ℕ) → List ℕ → Bool
 cellsWithin lo hi p pg = onJudged (λ e. foldCells (λ b c. b && within lo hi (c .key)) true (cells pg)) (λ f. false) (judgeLeaf p pg)
 
 -- page p is in use, has that parent, and is such a leaf
-unfoldable pub soundLeaf : (used parent p lo hi : ℕ) → List ℕ → Bool
-soundLeaf used parent p lo hi s = ltb p used && (eqb (parentOf (page p s)) parent && cellsWithin lo hi p (page p s))
+unfoldable pub soundLeaf : List ℕ → (used parent p lo hi : ℕ) → Bool
+soundLeaf s used parent p lo hi = ltb p used && (eqb (parentOf (page p s)) parent && cellsWithin lo hi p (page p s))
 
 -- or an internal page that is judged well, every key from lo to hi
-unfoldable pub soundInner : (used parent p lo hi : ℕ) → List ℕ → Bool
-soundInner used parent p lo hi s =
+unfoldable pub soundInner : List ℕ → (used parent p lo hi : ℕ) → Bool
+soundInner s used parent p lo hi =
     ltb p used
     && (eqb (parentOf (page p s)) parent && onInner (λ n. allWithin lo hi (keysOf (page p s))) (λ f. false) (judgeInner p (page p s)))
 
@@ -46,8 +46,8 @@ soundKids f lo hi [] (c ∷ cs) = f c lo hi
 soundKids f lo hi (k ∷ ks) (c ∷ cs) = f c lo k && soundKids f k hi ks cs
 
 unfoldable pub soundTree : (k used : ℕ) → List ℕ → (parent p lo hi : ℕ) → Bool
-soundTree zero used s parent p lo hi = soundLeaf used parent p lo hi s
-soundTree (suc k) used s parent p lo hi = soundInner used parent p lo hi s && soundKids (soundTree k used s p) lo hi (keysOf (page p s)) (childrenOf (page p s))
+soundTree zero used s parent p lo hi = soundLeaf s used parent p lo hi
+soundTree (suc k) used s parent p lo hi = soundInner s used parent p lo hi && soundKids (soundTree k used s p) lo hi (keysOf (page p s)) (childrenOf (page p s))
 
 -- the leaves, left to right, and all pages
 unfoldable pub eachOf : (ℕ → List ℕ) → List ℕ → List ℕ
@@ -71,8 +71,8 @@ leavesLinked s (x ∷ []) = eqb (nextLeaf (page x s)) 0
 leavesLinked s (x ∷ (y ∷ ys)) = eqb (nextLeaf (page x s)) y && (not (eqb y 0) && leavesLinked s (y ∷ ys))
 
 -- with k levels below the root; ranks are from 0 to 4294967295, so that the root has no bounds
-unfoldable pub wellAt : (k used root : ℕ) → List ℕ → Bool
-wellAt k used root s = soundTree k used s 0 root 0 4294967295 && (leavesLinked s (leavesOf k s root) && distinct (pagesOf k s root))
+unfoldable pub wellAt : List ℕ → (used root k : ℕ) → Bool
+wellAt s used root k = soundTree k used s 0 root 0 4294967295 && (leavesLinked s (leavesOf k s root) && distinct (pagesOf k s root))
 
-unfoldable pub isWellFormed : (used root : ℕ) → List ℕ → Bool
-isWellFormed used root s = wellAt 0 used root s || (wellAt 1 used root s || (wellAt 2 used root s || wellAt 3 used root s))
+unfoldable pub isWellFormed : List ℕ → (used root : ℕ) → Bool
+isWellFormed s used root = wellAt s used root 0 || (wellAt s used root 1 || (wellAt s used root 2 || wellAt s used root 3))

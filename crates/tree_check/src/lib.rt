@@ -60,7 +60,7 @@ fn cells_within(pg: &[u8], p: u32, lo: u32, hi: u32) -> bool
 
 fn sound_leaf(pool: &[u8], used: u32, parent: u32, p: u32, lo: u32, hi: u32) -> bool
     requires { ⌜ used * 4096 ≤ length (now pool) ⌝ }
-    ensures { λ r. ⌜ r ≡ soundLeaf used parent p lo hi (now (pool .entry)) ⌝ }
+    ensures { λ r. ⌜ r ≡ soundLeaf (now (pool .entry)) used parent p lo hi ⌝ }
 {
     if used <= p {
         return false;
@@ -165,7 +165,7 @@ fn check_leaf(pool: &[u8], used: u32, parent: u32, p: u32, lo: u32, hi: u32, nex
 // leaf.
 pub fn check_tree(pool: &[u8], used: u32, root: u32) -> bool
     requires { ⌜ used * 4096 ≤ length (now pool) ⌝ }
-    ensures { λ r. ⌜ r ≡ isWellFormed used root (now (pool .entry)) ⌝ }
+    ensures { λ r. ⌜ r ≡ isWellFormed (now (pool .entry)) used root ⌝ }
 {
     let mut below: usize = 0;
     while below < 4 {

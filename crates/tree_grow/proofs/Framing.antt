@@ -95,7 +95,7 @@ module _ (used : ℕ) (s : List ℕ) where
   stands-apart x old [] h e q = let z : _≡_ {A = ℕ} 0 1 = cc in omega arith
   stands-apart x old (p ∷ ps) h e q = let n = h .1 in let z : _≡_ {A = ℕ} 0 1 = cc in omega arith
 
-module _ (used root p : ℕ) (s ps : List ℕ) (e : climbOf 3 used root p s ≡ up (p ∷ ps)) where
+module _ (used root p : ℕ) (s ps : List ℕ) (e : climbOf s used root p 3 ≡ up (p ∷ ps)) where
   risen : Rises used root p s ps
   risen = let r = climb-risen used root s 3 p e in let t = r .is in let same : ps ≡ r .above = cc in subst (λ (l : List ℕ). Rises used root p s l) (sym same) (r .rises)
 
@@ -130,7 +130,7 @@ in-use-child used (suc n) i pg e k h l =
     (λ (a : i < k). in-use-child used n (i + 1) pg (c .1) k (omega arith) (omega arith))
     (le-or-lt k i)
 
-plan-links : (used old : ℕ) (ps s : List ℕ) → planOf used old ps s ≡ Plan.Ok (divisionOf ps s) → inUse used (relinks old ps s) ≡ Links.InUse
+plan-links : (used old : ℕ) (ps s : List ℕ) → planOf s used old ps ≡ Plan.Ok (divisionOf ps s) → inUse used (relinks old ps s) ≡ Links.InUse
 unfolding planOf
 plan-links used old ps s e = by-links (inUse used (relinks old ps s)) e
   where

@@ -220,6 +220,6 @@ from-is full used old (p ∷ ps) s =
     let xs = relinksIn (placeIn old (page p s)) (keepsNumber p ps) (page p s) in
     rw (from-is (full + 1) used p ps s, use-pick used b xs (relinks p ps s)) (one-more full (fullPages ps s) (length ps) b (inUse used xs) (inUse used (relinks p ps s)))
 
-pub plan-is : (used old : ℕ) (ps s : List ℕ) → planFrom 0 used old ps s ≡ planOf used old ps s
+pub plan-is : (used old : ℕ) (ps s : List ℕ) → planFrom 0 used old ps s ≡ planOf s used old ps
 unfolding planOf divisionOf
 plan-is used old ps s = from-is 0 used old ps s ∙ rw (zero-add (fullPages ps s))

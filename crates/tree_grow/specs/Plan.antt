@@ -60,5 +60,5 @@ onLinks good ill Links.InUse = good
 onLinks good ill (Links.Bad f) = ill f
 
 -- what the division of the page old leads to, or the fault
-unfoldable pub planOf : (used old : ℕ) → List ℕ → List ℕ → Plan
-planOf used old ps s = onLinks (Plan.Ok (divisionOf ps s)) (λ f. Plan.Bad f) (inUse used (relinks old ps s))
+unfoldable pub planOf : List ℕ → (used old : ℕ) → List ℕ → Plan
+planOf s used old ps = onLinks (Plan.Ok (divisionOf ps s)) (λ f. Plan.Bad f) (inUse used (relinks old ps s))

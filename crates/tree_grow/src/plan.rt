@@ -92,7 +92,7 @@ fn links_in(pg: &[u8], used: u32, i: usize, relocated: bool) -> Links
 // What a division of the path's first page leads to above it; or the fault of a child that is not in use.
 pub fn plan_above(pool: &[u8], used: u32, path: Path) -> Plan
     requires { ⌜ (0 < path .len) × (path .len ≤ 4) × (used * 4096 ≤ length (now pool)) × Stands used (pageAt path 0) (pagesAbove path 0) (now pool) ⌝ }
-    ensures { λ r. ⌜ r ≡ planOf used (pageAt path 0) (pagesAbove path 0) (now (pool .entry)) ⌝ }
+    ensures { λ r. ⌜ r ≡ planOf (now (pool .entry)) used (pageAt path 0) (pagesAbove path 0) ⌝ }
 {
     let mut full: usize = 0;
     while full + 1 < path.len {

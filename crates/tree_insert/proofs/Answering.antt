@@ -26,10 +26,10 @@ use Rattle.tree_room.proofs.Telling.{plan-told}
 
 pub record Storable (s : List ℕ) (st : State) (key creator m : ℕ) (r : Ready) : Type 0 where
   pub spots : spotOf s (st .used) (st .root) key creator ≡ Spotted.Ok (r .spot)
-  pub plans : insertPlan st (r .spot) m s ≡ planned (r .plan)
+  pub plans : insertPlan s st (r .spot) m ≡ planned (r .plan)
   pub fits : roomOf (length s / 4096) st (bytesWith (r .spot) m) (r .plan) ≡ 0
 
-ok-planned : (st : State) (x : Spot) (m : ℕ) (s : List ℕ) → insertPlan st x m s .ok ≡ true → insertPlan st x m s ≡ planned (insertPlan st x m s .plan)
+ok-planned : (st : State) (x : Spot) (m : ℕ) (s : List ℕ) → insertPlan s st x m .ok ≡ true → insertPlan s st x m ≡ planned (insertPlan s st x m .plan)
 unfolding insertPlan
 ok-planned st x m s = plan-told st (x .leaf) _ _ s
 
@@ -37,23 +37,23 @@ module _ (s : List ℕ) (st : State) (key creator m : ℕ) where
   pub at-ok : (seen : Bool) (x : Spot) → spotOf s (st .used) (st .root) key creator ≡ Spotted.Ok x → readyAt s st seen x m .ok ≡ true
       → Storable s st key creator m (readyAt s st seen x m)
   unfolding readyAt
-  at-ok seen x sp h = by-ok (insertPlan st x m s .ok) (insertPlan st x m s .plan) (roomOf (length s / 4096) st (bytesWith x m) (insertPlan st x m s .plan)) refl refl (λ q. ok-planned st x m s q) h
+  at-ok seen x sp h = by-ok (insertPlan s st x m .ok) (insertPlan s st x m .plan) (roomOf (length s / 4096) st (bytesWith x m) (insertPlan s st x m .plan)) refl refl (λ q. ok-planned st x m s q) h
     where
-      by-room : (plan : Planned) (n : ℕ) → roomOf (length s / 4096) st (bytesWith x m) plan ≡ n → insertPlan st x m s ≡ planned plan → (b : Bool) → eqb n 0 ≡ b
+      by-room : (plan : Planned) (n : ℕ) → roomOf (length s / 4096) st (bytesWith x m) plan ≡ n → insertPlan s st x m ≡ planned plan → (b : Bool) → eqb n 0 ≡ b
           → pick b (ready x plan) (notReady n noFault) .ok ≡ true → Storable s st key creator m (pick b (ready x plan) (notReady n noFault))
       by-room plan n r e true q u = record { spots = sp; plans = e; fits = r ∙ eqb-true n 0 q }
       by-room plan n r e false q u = absurd (let z : _≡_ {A = ℕ} 0 1 = cc in omega arith)
 
-      by-seen : (plan : Planned) (n : ℕ) → roomOf (length s / 4096) st (bytesWith x m) plan ≡ n → insertPlan st x m s ≡ planned plan → (b : Bool)
+      by-seen : (plan : Planned) (n : ℕ) → roomOf (length s / 4096) st (bytesWith x m) plan ≡ n → insertPlan s st x m ≡ planned plan → (b : Bool)
           → pick b (notReady 6 noFault) (pick (eqb n 0) (ready x plan) (notReady n noFault)) .ok ≡ true
           → Storable s st key creator m (pick b (notReady 6 noFault) (pick (eqb n 0) (ready x plan) (notReady n noFault)))
       by-seen plan n r e true u = absurd (let z : _≡_ {A = ℕ} 0 1 = cc in omega arith)
       by-seen plan n r e false u = by-room plan n r e (eqb n 0) refl u
 
-      by-ok : (b : Bool) (plan : Planned) (n : ℕ) → insertPlan st x m s .ok ≡ b → roomOf (length s / 4096) st (bytesWith x m) plan ≡ n
-          → (insertPlan st x m s .ok ≡ true → insertPlan st x m s ≡ planned plan)
-          → pick b (pick seen (notReady 6 noFault) (pick (eqb n 0) (ready x plan) (notReady n noFault))) (notReady 2 (insertPlan st x m s .fault)) .ok ≡ true
-          → Storable s st key creator m (pick b (pick seen (notReady 6 noFault) (pick (eqb n 0) (ready x plan) (notReady n noFault))) (notReady 2 (insertPlan st x m s .fault)))
+      by-ok : (b : Bool) (plan : Planned) (n : ℕ) → insertPlan s st x m .ok ≡ b → roomOf (length s / 4096) st (bytesWith x m) plan ≡ n
+          → (insertPlan s st x m .ok ≡ true → insertPlan s st x m ≡ planned plan)
+          → pick b (pick seen (notReady 6 noFault) (pick (eqb n 0) (ready x plan) (notReady n noFault))) (notReady 2 (insertPlan s st x m .fault)) .ok ≡ true
+          → Storable s st key creator m (pick b (pick seen (notReady 6 noFault) (pick (eqb n 0) (ready x plan) (notReady n noFault))) (notReady 2 (insertPlan s st x m .fault)))
       by-ok true plan n q r e u = by-seen plan n r (e q) seen u
       by-ok false plan n q r e u = absurd (let z : _≡_ {A = ℕ} 0 1 = cc in omega arith)
 

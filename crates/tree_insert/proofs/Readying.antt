@@ -42,8 +42,8 @@ module _ (x : Spot) (plan : Planned) (n : ℕ) where
 
 -- ---- a spot and its plan
 
-module _ (s : List ℕ) (st : State) (x : Spot) (m : ℕ) {told : LeafPlan} (plans : told ≡ insertPlan st x m s) where
-  pub at-planned : not (told .ok) ≡ false → insertPlan st x m s ≡ planned (told .plan)
+module _ (s : List ℕ) (st : State) (x : Spot) (m : ℕ) {told : LeafPlan} (plans : told ≡ insertPlan s st x m) where
+  pub at-planned : not (told .ok) ≡ false → insertPlan s st x m ≡ planned (told .plan)
   unfolding insertPlan
   at-planned h = rw plans (plan-told st (x .leaf) _ _ s (rw plans at (not-false (told .ok) h)))
 

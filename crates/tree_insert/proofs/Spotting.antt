@@ -55,19 +55,19 @@ module _ (route : Route) (used : ℕ) (s : List ℕ) where
       by-tests true false u v w = ih w
       by-tests false b u v w = absurd (let z : _≡_ {A = ℕ} 0 1 = cc in omega arith)
 
-  pub leaf-in : (k p : ℕ) {q : ℕ} → descendOf k route used p s ≡ Descent.Leaf q → LeafIn used q s
+  pub leaf-in : (k p : ℕ) {q : ℕ} → descendOf s used p route k ≡ Descent.Leaf q → LeafIn used q s
   unfolding descendOf
   leaf-in zero p {q} e = here-is p q (Descent.Bad (structural p)) (λ w. absurd (let z : _≡_ {A = ℕ} 0 1 = cc in omega arith)) e
-  leaf-in (suc k) p {q} e = here-is p q (onInner (λ n. descendOf k route used (childOf route p n s) s) (λ f. Descent.Bad f) (judgeInner p (page p s))) (by-inner (judgeInner p (page p s)) (λ n. leaf-in k (childOf route p n s))) e
+  leaf-in (suc k) p {q} e = here-is p q (onInner (λ n. descendOf s used (childOf route p n s) route k) (λ f. Descent.Bad f) (judgeInner p (page p s))) (by-inner (judgeInner p (page p s)) (λ n. leaf-in k (childOf route p n s))) e
     where
-      by-inner : (j : InnerJudged) → ((n : ℕ) → descendOf k route used (childOf route p n s) s ≡ Descent.Leaf q → LeafIn used q s)
-          → onInner (λ n. descendOf k route used (childOf route p n s) s) (λ f. Descent.Bad f) j ≡ Descent.Leaf q → LeafIn used q s
+      by-inner : (j : InnerJudged) → ((n : ℕ) → descendOf s used (childOf route p n s) route k ≡ Descent.Leaf q → LeafIn used q s)
+          → onInner (λ n. descendOf s used (childOf route p n s) route k) (λ f. Descent.Bad f) j ≡ Descent.Leaf q → LeafIn used q s
       by-inner (InnerJudged.Ok n) ih w = ih n w
       by-inner (InnerJudged.Bad f) ih w = absurd (let z : _≡_ {A = ℕ} 0 1 = cc in omega arith)
 
 -- ---- the ways out
 
-module _ (used root key creator : ℕ) (s : List ℕ) {d : Descent} (way : d ≡ descendOf 3 (Route.Insert key) used root s) where
+module _ (used root key creator : ℕ) (s : List ℕ) {d : Descent} (way : d ≡ descendOf s used root (Route.Insert key) 3) where
   pub spot-lost : {f : Fault} → d ≡ Descent.Bad f → Spotted.Bad f ≡ spotOf s used root key creator
   unfolding spotOf
   spot-lost e = rw (sym way ∙ e)
@@ -133,7 +133,7 @@ record Told (used key creator : ℕ) (s : List ℕ) (x : Spot) : Type 0 where
 
 told : (used root key creator : ℕ) (s : List ℕ) (x : Spot) → spotOf s used root key creator ≡ Spotted.Ok x → Told used key creator s x
 unfolding spotOf
-told used root key creator s x e = by-way (descendOf 3 (Route.Insert key) used root s) refl e
+told used root key creator s x e = by-way (descendOf s used root (Route.Insert key) 3) refl e
   where
     by-place : (p : ℕ) (r : LeafPlace) → LeafIn used p s → placeLeaf (page p s) p key creator ≡ r → spotIn p r ≡ Spotted.Ok x → Told used key creator s x
     by-place p (LeafPlace.Ok here n) l q w =
@@ -141,7 +141,7 @@ told used root key creator s x e = by-way (descendOf 3 (Route.Insert key) used r
         rw (← same) (record { leaf = l; placed = place-is (page p s) p key creator q })
     by-place p (LeafPlace.Bad f) l q w = absurd (let z : _≡_ {A = ℕ} 0 1 = cc in omega arith)
 
-    by-way : (d : Descent) → descendOf 3 (Route.Insert key) used root s ≡ d
+    by-way : (d : Descent) → descendOf s used root (Route.Insert key) 3 ≡ d
         → onLeaf (λ p. spotIn p (placeLeaf (page p s) p key creator)) (λ f. Spotted.Bad f) d ≡ Spotted.Ok x → Told used key creator s x
     by-way (Descent.Leaf p) q w = by-place p (placeLeaf (page p s) p key creator) (leaf-in (Route.Insert key) used s 3 root q) refl w
     by-way (Descent.Bad f) q w = absurd (let z : _≡_ {A = ℕ} 0 1 = cc in omega arith)

@@ -52,7 +52,7 @@ cell-size stamp pointer n h =
 
 module _ (s : List ℕ) (st : State) (x : Spot) (plan : Planned) (key creator : ℕ) (stamp : Stamp) (pointer : Pointer) (body : List ℕ)
     (B : AreBytes s) (good : goodPool s st ≡ true) (short : length body ≤ 4051) (spot : spotOf s (st .used) (st .root) key creator ≡ Spotted.Ok x)
-    (plans : insertPlan st x (cellSize stamp pointer (length body)) s ≡ planned plan) where
+    (plans : insertPlan s st x (cellSize stamp pointer (length body)) ≡ planned plan) where
   abbrev m : ℕ
   m = cellSize stamp pointer (length body)
 
@@ -65,7 +65,7 @@ module _ (s : List ℕ) (st : State) (x : Spot) (plan : Planned) (key creator : 
   pub stored-at : SpotIs (st .used) key creator s x
   stored-at = spot-is (st .used) (st .root) key creator s x B (pool-is s st good .room) spot
 
-  leaf-plans : leafPlan st (x .leaf) (ltb 4084 (bytesWith x m)) (cutWith x m pg) s ≡ planned plan
+  leaf-plans : leafPlan s st (x .leaf) (ltb 4084 (bytesWith x m)) (cutWith x m pg) ≡ planned plan
   unfolding insertPlan
   leaf-plans = plans
 
@@ -93,7 +93,7 @@ module _ (s : List ℕ) (st : State) (x : Spot) (plan : Planned) (key creator : 
     cut-is : plan .cut ≡ cutWith x m pg
     cut-is = told .at-cut (sym (told .same) ∙ over)
 
-    over-plans : leafPlan st (x .leaf) true (cutWith x m pg) s ≡ planned plan
+    over-plans : leafPlan s st (x .leaf) true (cutWith x m pg) ≡ planned plan
     over-plans = rw (sym (told .same) ∙ over) at leaf-plans
 
     pub free-left : RoomLeft s st plan

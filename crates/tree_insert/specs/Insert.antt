@@ -27,8 +27,8 @@ abbrev pub cutWith : Spot → (m : ℕ) → List ℕ → Cut
 cutWith x m pg = cutLeaf (bytesWith x m) (x .place .before) (x .place .at) (cellCount pg - x .place .before) m pg
 
 -- "An overfull leaf (cells over 4084 bytes) is cut"
-unfoldable pub insertPlan : State → Spot → (m : ℕ) → List ℕ → LeafPlan
-insertPlan st x m s = leafPlan st (x .leaf) (ltb leafRoom (bytesWith x m)) (cutWith x m (page (x .leaf) s)) s
+unfoldable pub insertPlan : List ℕ → State → Spot → (m : ℕ) → LeafPlan
+insertPlan s st x m = leafPlan s st (x .leaf) (ltb leafRoom (bytesWith x m)) (cutWith x m (page (x .leaf) s))
 
 -- the leaf's bytes with the cell's bytes b at its place; they may be more than a page holds
 abbrev pub splicedAt : Spot → (b pg : List ℕ) → List ℕ

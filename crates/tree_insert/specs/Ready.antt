@@ -51,7 +51,7 @@ readyByRoom x plan n = pick (eqb n 0) (ready x plan) (notReady n noFault)
 -- 2, 6, 9, 11, 10: a cell of m bytes at the spot, where a version is seen already or not
 unfoldable pub readyAt : List ℕ → State → (seen : Bool) → Spot → (m : ℕ) → Ready
 readyAt s st seen x m =
-    onLeafPlan (λ plan. pick seen (notReady Duplicate noFault) (readyByRoom x plan (roomOf (length s / 4096) st (bytesWith x m) plan))) (notReady BadTree) (insertPlan st x m s)
+    onLeafPlan (λ plan. pick seen (notReady Duplicate noFault) (readyByRoom x plan (roomOf (length s / 4096) st (bytesWith x m) plan))) (notReady BadTree) (insertPlan s st x m)
 
 -- a version that is not asked whether its key is free
 unfoldable pub versionAt : List ℕ → State → (key creator m : ℕ) → Ready

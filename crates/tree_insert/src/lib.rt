@@ -85,7 +85,7 @@ fn cut_at(pool: &[u8], x: Spot, m: usize) -> Cut
 // What putting a cell of m bytes there would take.
 pub fn plan_insert(pool: &[u8], st: State, x: Spot, m: usize, key: u32, creator: u64) -> LeafPlan
     requires { ⌜ (st .used * 4096 ≤ length (now pool)) × (m ≤ 4084) × (spotOf (now pool) (st .used) (st .root) key creator ≡ Spotted.Ok x) ⌝ }
-    ensures { λ r. ⌜ r ≡ insertPlan st x m (now (pool .entry)) ⌝ }
+    ensures { λ r. ⌜ r ≡ insertPlan (now (pool .entry)) st x m ⌝ }
 {
     let over = page::LEAF_ROOM < x.end - page::HEADER_SIZE + m;
     if over {
@@ -163,7 +163,7 @@ fn store_divided(
 ) -> State
     requires { ⌜ (goodPool (now pool) st ≡ true) × (length (now body) ≤ 4051) × (n ≡ cellCount (page (x .leaf) (now pool))) × (plan .over ≡ true) ⌝ }
     requires { ⌜ spotOf (now pool) (st .used) (st .root) key creator ≡ Spotted.Ok x ⌝ }
-    requires { ⌜ insertPlan st x (cellSize stamp pointer (length (now body))) (now pool) ≡ planned plan ⌝ }
+    requires { ⌜ insertPlan (now pool) st x (cellSize stamp pointer (length (now body))) ≡ planned plan ⌝ }
     requires { ⌜ roomOf (length (now pool) / 4096) st (bytesWith x (cellSize stamp pointer (length (now body)))) plan ≡ 0 ⌝ }
     ensures { λ r. ⌜ grown (now (pool .exit)) r ≡ dividedUp plan (x .leaf) (n + 1) (splicedAt x (cellBytes key creator stamp pointer (now (body .entry))) (page (x .leaf) (now (pool .entry)))) (grown (now (pool .entry)) st) ⌝ }
 {
@@ -190,7 +190,7 @@ pub fn store_insert(
 ) -> State
     requires { ⌜ (goodPool (now pool) st ≡ true) × (length (now body) ≤ 4051) ⌝ }
     requires { ⌜ spotOf (now pool) (st .used) (st .root) key creator ≡ Spotted.Ok x ⌝ }
-    requires { ⌜ insertPlan st x (cellSize stamp pointer (length (now body))) (now pool) ≡ planned plan ⌝ }
+    requires { ⌜ insertPlan (now pool) st x (cellSize stamp pointer (length (now body))) ≡ planned plan ⌝ }
     requires { ⌜ roomOf (length (now pool) / 4096) st (bytesWith x (cellSize stamp pointer (length (now body)))) plan ≡ 0 ⌝ }
     ensures { λ r. ⌜ grown (now (pool .exit)) r ≡ insertedAt x plan (cellBytes key creator stamp pointer (now (body .entry))) (grown (now (pool .entry)) st) ⌝ }
 {

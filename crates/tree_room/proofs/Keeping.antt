@@ -142,7 +142,7 @@ division-few : (ps s : List ℕ) → divisionOf ps s .full ≤ length ps
 unfolding divisionOf
 division-few ps s = full-few ps s
 
-plan-division : (used old : ℕ) (ps s : List ℕ) {d : Division} → planOf used old ps s ≡ Plan.Ok d → d ≡ divisionOf ps s
+plan-division : (used old : ℕ) (ps s : List ℕ) {d : Division} → planOf s used old ps ≡ Plan.Ok d → d ≡ divisionOf ps s
 unfolding planOf
 plan-division used old ps s {d} e = by-links (inUse used (relinks old ps s)) e
   where
@@ -156,7 +156,7 @@ pub record PlannedIs (st : State) (p : ℕ) (over : Bool) (cut : Cut) (s : List 
   pub climbs : Climbs st p s (plan .path)
   pub few : plan .above .full ≤ 4
   pub at-cut : over ≡ true → plan .cut ≡ cut
-  pub plans : over ≡ true → planOf (st .used) p (pagesAbove (plan .path) 0) s ≡ Plan.Ok (plan .above)
+  pub plans : over ≡ true → planOf s (st .used) p (pagesAbove (plan .path) 0) ≡ Plan.Ok (plan .above)
   pub divides : over ≡ true → plan .above ≡ divisionOf (pagesAbove (plan .path) 0) s
 
 module _ (st : State) (p : ℕ) (over : Bool) (cut : Cut) (s : List ℕ) where
@@ -171,7 +171,7 @@ module _ (st : State) (p : ℕ) (over : Bool) (cut : Cut) (s : List ℕ) where
         divides = λ e. absurd (let z : _≡_ {A = ℕ} 0 1 = cc in omega arith);
       }
 
-  divides-is : {path : Path} {d : Division} → over ≡ true → Climbs st p s path → planOf (st .used) (pageAt path 0) (pagesAbove path 0) s ≡ Plan.Ok d
+  divides-is : {path : Path} {d : Division} → over ≡ true → Climbs st p s path → planOf s (st .used) (pageAt path 0) (pagesAbove path 0) ≡ Plan.Ok d
       → PlannedIs st p over cut s (dividing path cut d)
   divides-is {path} {d} o h e =
       let f = rw (h .first) at e in
@@ -192,12 +192,12 @@ module _ (st : State) (p : ℕ) (over : Bool) (cut : Cut) (s : List ℕ) where
   told u = subst (λ (y : Planned). PlannedIs st p over cut s y) (ap (λ (y : LeafPlan). y .plan) u)
 
   -- by the climb c
-  module _ (c : Climbed) (climb : c ≡ climbed (climbOf 3 (st .used) (st .root) p s)) where
+  module _ (c : Climbed) (climb : c ≡ climbed (climbOf s (st .used) (st .root) p 3)) where
     abbrev onward : Plan → LeafPlan
     onward d = onPlan (λ a. planned (dividing (c .path) cut a)) (λ f. unplanned f) d
 
     abbrev plan₀ : Plan
-    plan₀ = planOf (st .used) (pageAt (c .path) 0) (pagesAbove (c .path) 0) s
+    plan₀ = planOf s (st .used) (pageAt (c .path) 0) (pagesAbove (c .path) 0)
 
     module _ {plan : Planned} where
       by-plan : Climbs st p s (c .path) → over ≡ true → (d : Plan) → plan₀ ≡ d → onward d ≡ planned plan → PlannedIs st p over cut s plan
@@ -212,9 +212,9 @@ module _ (st : State) (p : ℕ) (over : Bool) (cut : Cut) (s : List ℕ) where
       by-ok true o u = by-over (climb-climbs st p s climb o) over refl u
       by-ok false o u = none-is u
 
-  pub planned-is : {plan : Planned} → leafPlan st p over cut s ≡ planned plan → PlannedIs st p over cut s plan
+  pub planned-is : {plan : Planned} → leafPlan s st p over cut ≡ planned plan → PlannedIs st p over cut s plan
   unfolding leafPlan
-  planned-is e = let c = climbed (climbOf 3 (st .used) (st .root) p s) in by-ok c refl (c .ok) refl e
+  planned-is e = let c = climbed (climbOf s (st .used) (st .root) p 3) in by-ok c refl (c .ok) refl e
 
 -- ---- the room
 
@@ -264,7 +264,7 @@ room-left s st t x good e o =
 -- ---- all together
 
 pub planned-safe : (s : List ℕ) (st : State) (p t : ℕ) (cut : Cut) (plan : Planned) (sep : ℕ) (g : Grown) → goodPool s st ≡ true → p < st .used
-    → nodeType (page p s) ≡ 1 → leafPlan st p true cut s ≡ planned plan → roomOf (length s / 4096) st t plan ≡ 0 → LeafDivided s st p g
+    → nodeType (page p s) ≡ 1 → leafPlan s st p true cut ≡ planned plan → roomOf (length s / 4096) st t plan ≡ 0 → LeafDivided s st p g
     → AboveSafe (st .root) p sep (st .used) (pagesAbove (plan .path) 0) g
 planned-safe s st p t cut plan sep g good low kind e room leaf =
     let is = planned-is st p true cut s e in
@@ -279,7 +279,7 @@ planned-safe s st p t cut plan sep g good low kind e room leaf =
 
 -- v, of t bytes and the header, is what the leaf p would hold; a is what was handed out, u the pool with the leaf divided
 module _ (s : List ℕ) (st : State) (p n t : ℕ) (cut : Cut) (v : List ℕ) {plan : Planned} (good : goodPool s st ≡ true) (low : p < st .used) (kind : nodeType (page p s) ≡ 1)
-    (plans : leafPlan st p true cut s ≡ planned plan) (room : roomOf (length s / 4096) st t plan ≡ 0) (head : part 0 12 v ≡ part 0 12 (page p s))
+    (plans : leafPlan s st p true cut ≡ planned plan) (room : roomOf (length s / 4096) st t plan ≡ 0) (head : part 0 12 v ≡ part 0 12 (page p s))
     (size : length v ≡ 12 + t) (inside : plan .cut .bytes ≤ t)
     {a : Allocated} {s₁ u : List ℕ} (given : a ≡ allocated s st) (fresh : s₁ ≡ withFresh s st) (divides : u ≡ divided p (a .page) n (plan .cut) v s₁) where
   is : PlannedIs st p true cut s plan

@@ -39,23 +39,23 @@ path-above p ps =
 
 -- the path of a climb from page p that came to the root
 pub record Climbs (st : State) (p : ℕ) (s : List ℕ) (path : Path) : Type 0 where
-  pub way : climbOf 3 (st .used) (st .root) p s ≡ up (p ∷ pagesAbove path 0)
+  pub way : climbOf s (st .used) (st .root) p 3 ≡ up (p ∷ pagesAbove path 0)
   pub first : pageAt path 0 ≡ p
   pub some : 0 < path .len
   pub four : path .len ≤ 4
   pub above : length (pagesAbove path 0) < path .len
 
 module _ (st : State) (p : ℕ) (s : List ℕ) where
-  risen-climbs : (l : List ℕ) → length l ≤ 3 → climbOf 3 (st .used) (st .root) p s ≡ up (p ∷ l) → Climbs st p s (pathOf (p ∷ l))
+  risen-climbs : (l : List ℕ) → length l ≤ 3 → climbOf s (st .used) (st .root) p 3 ≡ up (p ∷ l) → Climbs st p s (pathOf (p ∷ l))
   unfolding pad
   risen-climbs l few way =
       let a = path-above p l in
       record { way = way ∙ ap (λ (x : List ℕ). up (p ∷ x)) (sym a); first = refl; some = omega arith; four = omega arith; above = rw a (omega arith) }
 
-  module _ {c : Climbed} (climb : c ≡ climbed (climbOf 3 (st .used) (st .root) p s)) where
+  module _ {c : Climbed} (climb : c ≡ climbed (climbOf s (st .used) (st .root) p 3)) where
     pub climb-climbs : c .ok ≡ true → Climbs st p s (c .path)
     climb-climbs ok =
-        let r = reached (climbOf 3 (st .used) (st .root) p s) climb ok in
+        let r = reached (climbOf s (st .used) (st .root) p 3) climb ok in
         let h = climb-risen (st .used) (st .root) s 3 p (r .way) in
         let e : c .path ≡ pathOf (p ∷ h .above) = r .path ∙ ap pathOf (h .is) in
         subst (λ (path : Path). Climbs st p s path) (sym e) (risen-climbs (h .above) (h .few) (r .way ∙ ap up (h .is)))
@@ -69,20 +69,20 @@ module _ (st : State) (p : ℕ) (s : List ℕ) where
     -- ---- the plan
 
     module _ (over : Bool) (cut : Cut) {r : LeafPlan} where
-      pub plan-astray : not (c .ok) ≡ true → r ≡ unplanned (c .fault) → r ≡ leafPlan st p over cut s
+      pub plan-astray : not (c .ok) ≡ true → r ≡ unplanned (c .fault) → r ≡ leafPlan s st p over cut
       unfolding leafPlan
       plan-astray h e = e ∙ rw (← climb, not-true (c .ok) h)
 
-      pub plan-fits : not (c .ok) ≡ false → not over ≡ true → {x : Planned} → x ≡ fitting (c .path) → r ≡ planned x → r ≡ leafPlan st p over cut s
+      pub plan-fits : not (c .ok) ≡ false → not over ≡ true → {x : Planned} → x ≡ fitting (c .path) → r ≡ planned x → r ≡ leafPlan s st p over cut
       unfolding leafPlan
       plan-fits h o f e = e ∙ rw (f, ← climb, not-false (c .ok) h, not-true over o)
 
-      module _ (ok : not (c .ok) ≡ false) (is : not over ≡ false) {d : Plan} (plans : d ≡ planOf (st .used) (pageAt (c .path) 0) (pagesAbove (c .path) 0) s) where
-        pub plan-bad : {f : Fault} → d ≡ Plan.Bad f → r ≡ unplanned f → r ≡ leafPlan st p over cut s
+      module _ (ok : not (c .ok) ≡ false) (is : not over ≡ false) {d : Plan} (plans : d ≡ planOf s (st .used) (pageAt (c .path) 0) (pagesAbove (c .path) 0)) where
+        pub plan-bad : {f : Fault} → d ≡ Plan.Bad f → r ≡ unplanned f → r ≡ leafPlan s st p over cut
         unfolding leafPlan
         plan-bad h e = e ∙ rw (← climb, not-false (c .ok) ok, not-false over is, ← plans, h)
 
-        pub plan-divides : {a : Division} → d ≡ Plan.Ok a → r ≡ planned (dividing (c .path) cut a) → r ≡ leafPlan st p over cut s
+        pub plan-divides : {a : Division} → d ≡ Plan.Ok a → r ≡ planned (dividing (c .path) cut a) → r ≡ leafPlan s st p over cut
         unfolding leafPlan
         plan-divides h e = e ∙ rw (← climb, not-false (c .ok) ok, not-false over is, ← plans, h)
 
@@ -134,6 +134,6 @@ module _ (pages : ℕ) (st : State) (t : ℕ) (x : Planned) where
         room-some h = rw (not-false (x .over) over, ← fits, not-false b cuts, shallow, ← asked, le-leb (st .used + 1 + n) pages h)
 
 -- where the leaf stays one, there is no cut
-pub plan-uncut : (st : State) (p : ℕ) (a b : Cut) (s : List ℕ) → leafPlan st p false a s ≡ leafPlan st p false b s
+pub plan-uncut : (st : State) (p : ℕ) (a b : Cut) (s : List ℕ) → leafPlan s st p false a ≡ leafPlan s st p false b
 unfolding leafPlan
 plan-uncut st p a b s = refl

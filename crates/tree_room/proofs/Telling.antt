@@ -30,10 +30,10 @@ tells-plan : (path : Path) (cut : Cut) (d : Plan) → Tells (onPlan (λ a. plann
 tells-plan path cut (Plan.Ok a) h = refl
 tells-plan path cut (Plan.Bad f) h = tells-not f h
 
-pub plan-told : (st : State) (p : ℕ) (over : Bool) (cut : Cut) (s : List ℕ) → leafPlan st p over cut s .ok ≡ true
-    → leafPlan st p over cut s ≡ planned (leafPlan st p over cut s .plan)
+pub plan-told : (st : State) (p : ℕ) (over : Bool) (cut : Cut) (s : List ℕ) → leafPlan s st p over cut .ok ≡ true
+    → leafPlan s st p over cut ≡ planned (leafPlan s st p over cut .plan)
 unfolding leafPlan
 plan-told st p over cut s =
-    let c = climbed (climbOf 3 (st .used) (st .root) p s) in
-    let d = planOf (st .used) (pageAt (c .path) 0) (pagesAbove (c .path) 0) s in
+    let c = climbed (climbOf s (st .used) (st .root) p 3) in
+    let d = planOf s (st .used) (pageAt (c .path) 0) (pagesAbove (c .path) 0) in
     tells-pick (c .ok) _ _ (tells-pick over _ _ (tells-plan (c .path) cut d) (λ h. refl)) (tells-not (c .fault))

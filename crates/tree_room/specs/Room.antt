@@ -45,15 +45,15 @@ abbrev pub unplanned : Fault → LeafPlan
 unplanned f = record { ok = false; fault = f; plan = fitting (record { pages = zeros 4; len = 0 }) }
 
 -- page p would be written, and whether it would be overfull; cut is where it would be cut
-unfoldable pub leafPlan : State → (p : ℕ) → (over : Bool) → Cut → List ℕ → LeafPlan
-leafPlan st p over cut s =
+unfoldable pub leafPlan : List ℕ → State → (p : ℕ) → (over : Bool) → Cut → LeafPlan
+leafPlan s st p over cut =
     onClimbed
     (λ path.
     pick over
-    (onPlan (λ d. planned (dividing path cut d)) (λ f. unplanned f) (planOf (st .used) (pageAt path 0) (pagesAbove path 0) s))
+    (onPlan (λ d. planned (dividing path cut d)) (λ f. unplanned f) (planOf s (st .used) (pageAt path 0) (pagesAbove path 0)))
     (planned (fitting path)))
     (λ f. unplanned f)
-    (climbed (climbOf 3 (st .used) (st .root) p s))
+    (climbed (climbOf s (st .used) (st .root) p 3))
 
 -- "the root must grow from 4 levels"
 abbrev pub growsTooDeep : Planned → Bool

@@ -68,7 +68,7 @@ fn unplanned_by(f: Fault) -> LeafPlan
 // Page p would be written: the climb from it, and where it would be overfull the plan above.
 pub fn plan_leaf(pool: &[u8], st: State, p: u32, over: bool, cut: Cut) -> LeafPlan
     requires { ⌜ (st .used * 4096 ≤ length (now pool)) × (p < st .used) ⌝ }
-    ensures { λ r. ⌜ r ≡ leafPlan st p over cut (now (pool .entry)) ⌝ }
+    ensures { λ r. ⌜ r ≡ leafPlan (now (pool .entry)) st p over cut ⌝ }
 {
     let up = tree::climb::climb(pool, st.used, st.root, p);
     let path = up.path;

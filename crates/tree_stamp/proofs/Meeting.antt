@@ -82,7 +82,7 @@ module _ (sn : Snapshot) (st : ℕ → ℕ) (used key : ℕ) (s : List ℕ) wher
       by-judged (Judged.Bad f) j q = absurd (let z : _≡_ {A = ℕ} 0 1 = cc in omega arith)
 
   abbrev go : ℕ → Best → ℕ → Told Best
-  go m a p = along (lookBest key sn st) used m a p s
+  go m a p = along s used p (lookBest key sn st) m a
 
   along-met : (m : ℕ) (a : Best) (p : ℕ) {b : Best} → go m a p ≡ ok b → BestMet s used a → BestMet s used b
   unfolding along
@@ -119,7 +119,7 @@ module _ (sn : Snapshot) (st : ℕ → ℕ) (used key : ℕ) (s : List ℕ) wher
 
   pub best-met : (root : ℕ) {p : ℕ} {c : Cell} → bestInTree s used root key sn st ≡ ChainBest.Ok (Best.At p c) → CellMet used p c s
   unfolding bestInTree
-  best-met root {p} {c} e = by-way (descendOf 3 (Route.Search key) used root s) e
+  best-met root {p} {c} e = by-way (descendOf s used root (Route.Search key) 3) e
     where
       by-way : (d : Descent) → onLeaf (λ q. bestAlong s used q key sn st) (λ f. ChainBest.Bad f) d ≡ ChainBest.Ok (Best.At p c) → CellMet used p c s
       by-way (Descent.Leaf q) u = chain-met q u

@@ -16,16 +16,16 @@ use Rattle.tree_room.proofs.Telling.{plan-told}
 use Rattle.tree_room.proofs.Rooming.{plan-uncut}
 
 module _ (st : State) (t : Target) (s : List ℕ) {y : LeafPlan} where
-  pub stamp-over : {cut : Cut} → 4084 < bytesStamped t → cut ≡ cutStamped t (page (t .leaf) s) → y ≡ leafPlan st (t .leaf) true cut s → y ≡ stampPlan st t s
+  pub stamp-over : {cut : Cut} → 4084 < bytesStamped t → cut ≡ cutStamped t (page (t .leaf) s) → y ≡ leafPlan s st (t .leaf) true cut → y ≡ stampPlan s st t
   unfolding stampPlan
   stamp-over h e q = q ∙ rw (lt-ltb 4084 (bytesStamped t) h, e)
 
-  pub stamp-fits : (cut : Cut) → bytesStamped t ≤ 4084 → y ≡ leafPlan st (t .leaf) false cut s → y ≡ stampPlan st t s
+  pub stamp-fits : (cut : Cut) → bytesStamped t ≤ 4084 → y ≡ leafPlan s st (t .leaf) false cut → y ≡ stampPlan s st t
   unfolding stampPlan
   stamp-fits cut h q = q ∙ rw (le-ltb 4084 (bytesStamped t) h) (plan-uncut st (t .leaf) cut (cutStamped t (page (t .leaf) s)) s)
 
-  module _ (plans : y ≡ stampPlan st t s) (ok : not (y .ok) ≡ false) where
-    pub stamp-told : stampPlan st t s ≡ planned (y .plan)
+  module _ (plans : y ≡ stampPlan s st t) (ok : not (y .ok) ≡ false) where
+    pub stamp-told : stampPlan s st t ≡ planned (y .plan)
     unfolding stampPlan
     stamp-told = rw plans (plan-told st (t .leaf) _ _ s (rw plans at (not-false (y .ok) ok)))
 

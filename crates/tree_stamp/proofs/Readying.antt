@@ -31,7 +31,7 @@ module _ (t : Target) (plan : Planned) (n : ℕ) where
   pub room-refused : {r : Marking} → (n ≡ 0 → ⊥) → r ≡ notMarking n noFault → r ≡ markingByRoom t plan n
   room-refused h e = e ∙ rw (ne-eqb n 0 h)
 
-module _ (s : List ℕ) (st : State) (test : ChainTest) (t : Target) {told : LeafPlan} (plans : told ≡ stampPlan st t s) {r : Marking} where
+module _ (s : List ℕ) (st : State) (test : ChainTest) (t : Target) {told : LeafPlan} (plans : told ≡ stampPlan s st t) {r : Marking} where
   pub mark-unplanned : not (told .ok) ≡ true → r ≡ notMarking 2 (told .fault) → r ≡ markingAt s st test t
   unfolding markingAt
   mark-unplanned h e = e ∙ rw (← plans, not-true (told .ok) h)

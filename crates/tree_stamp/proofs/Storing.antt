@@ -45,7 +45,7 @@ use Rattle.tree_stamp.proofs.Meeting.{Stands, target-stands}
 use Rattle.tree_stamp.proofs.Cutting.{cut-stands}
 
 module _ (s : List ℕ) (st : State) (t : Target) (plan : Planned) (d : ℕ) (good : goodPool s st ≡ true) (met : CellMet (st .used) (t .leaf) (t .cell) s)
-    (is : t ≡ targetOf (t .leaf) (t .cell) (page (t .leaf) s)) (plans : stampPlan st t s ≡ planned plan) where
+    (is : t ≡ targetOf (t .leaf) (t .cell) (page (t .leaf) s)) (plans : stampPlan s st t ≡ planned plan) where
   abbrev pg : List ℕ
   pg = page (t .leaf) s
 
@@ -58,7 +58,7 @@ module _ (s : List ℕ) (st : State) (t : Target) (plan : Planned) (d : ℕ) (go
   pub leaf-long : length pg ≡ 4096
   leaf-long = length-page (t .leaf) s leaf-there
 
-  leaf-plans : leafPlan st (t .leaf) (ltb 4084 (bytesStamped t)) (cutStamped t pg) s ≡ planned plan
+  leaf-plans : leafPlan s st (t .leaf) (ltb 4084 (bytesStamped t)) (cutStamped t pg) ≡ planned plan
   unfolding stampPlan
   leaf-plans = plans
 
@@ -86,7 +86,7 @@ module _ (s : List ℕ) (st : State) (t : Target) (plan : Planned) (d : ℕ) (go
     cut-is : plan .cut ≡ cutStamped t pg
     cut-is = told .at-cut (sym (told .same) ∙ over)
 
-    over-plans : leafPlan st (t .leaf) true (cutStamped t pg) s ≡ planned plan
+    over-plans : leafPlan s st (t .leaf) true (cutStamped t pg) ≡ planned plan
     over-plans = rw (sym (told .same) ∙ over) at leaf-plans
 
     pub free-left : RoomLeft s st plan

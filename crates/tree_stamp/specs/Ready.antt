@@ -61,4 +61,4 @@ markingAt s st test t =
     onLeafPlan
     (λ plan. onTest (notMarking Conflict noFault) (markingByRoom t plan (roomOf (length s / 4096) st (bytesStamped t) plan)) (notMarking BadTree) test)
     (notMarking BadTree)
-    (stampPlan st t s)
+    (stampPlan s st t)

@@ -33,8 +33,8 @@ abbrev pub cutStamped : Target → List ℕ → Cut
 cutStamped t pg =
     cutLeaf (bytesStamped t) (t .beside .before) (t .cell .next) (cellCount pg - (t .beside .before + 1)) (t .cell .next - t .cell .at + longer (t .cell)) pg
 
-unfoldable pub stampPlan : State → Target → List ℕ → LeafPlan
-stampPlan st t s = leafPlan st (t .leaf) (ltb leafRoom (bytesStamped t)) (cutStamped t (page (t .leaf) s)) s
+unfoldable pub stampPlan : List ℕ → State → Target → LeafPlan
+stampPlan s st t = leafPlan s st (t .leaf) (ltb leafRoom (bytesStamped t)) (cutStamped t (page (t .leaf) s))
 
 -- the leaf's bytes with the cell stamped by d; they may be more than a page holds
 abbrev pub splicedStamp : (d : ℕ) → Target → List ℕ → List ℕ

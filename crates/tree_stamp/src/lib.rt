@@ -110,7 +110,7 @@ fn cut_at(pool: &[u8], t: Target) -> Cut
 // What stamping it would take.
 pub fn plan_stamp(pool: &[u8], st: State, t: Target) -> LeafPlan
     requires { ⌜ (st .used * 4096 ≤ length (now pool)) × CellMet (st .used) (t .leaf) (t .cell) (now pool) × (t ≡ targetOf (t .leaf) (t .cell) (page (t .leaf) (now pool))) ⌝ }
-    ensures { λ r. ⌜ r ≡ stampPlan st t (now (pool .entry)) ⌝ }
+    ensures { λ r. ⌜ r ≡ stampPlan (now (pool .entry)) st t ⌝ }
 {
     if page::LEAF_ROOM < bytes_stamped(t) {
         let cut = cut_at(pool, t);
@@ -138,7 +138,7 @@ fn divide_at(pool: &mut [u8], t: Target, q: u32, n: usize, cut: Cut, d: u64)
 fn store_divided(pool: &mut [u8], st: State, t: Target, plan: Planned, n: usize, d: u64) -> State
     requires { ⌜ (goodPool (now pool) st ≡ true) × (n ≡ cellCount (page (t .leaf) (now pool))) × (plan .over ≡ true) ⌝ }
     requires { ⌜ CellMet (st .used) (t .leaf) (t .cell) (now pool) × (t ≡ targetOf (t .leaf) (t .cell) (page (t .leaf) (now pool))) ⌝ }
-    requires { ⌜ (stampPlan st t (now pool) ≡ planned plan) × (roomOf (length (now pool) / 4096) st (bytesStamped t) plan ≡ 0) ⌝ }
+    requires { ⌜ (stampPlan (now pool) st t ≡ planned plan) × (roomOf (length (now pool) / 4096) st (bytesStamped t) plan ≡ 0) ⌝ }
     ensures { λ r. ⌜ grown (now (pool .exit)) r ≡ dividedUp plan (t .leaf) n (splicedStamp d t (page (t .leaf) (now (pool .entry)))) (grown (now (pool .entry)) st) ⌝ }
 {
     let a = page::pool::allocate(pool, st);
@@ -154,7 +154,7 @@ fn store_divided(pool: &mut [u8], st: State, t: Target, plan: Planned, n: usize,
 pub fn store_stamp(pool: &mut [u8], st: State, t: Target, plan: Planned, d: u64) -> State
     requires { ⌜ goodPool (now pool) st ≡ true ⌝ }
     requires { ⌜ CellMet (st .used) (t .leaf) (t .cell) (now pool) × (t ≡ targetOf (t .leaf) (t .cell) (page (t .leaf) (now pool))) ⌝ }
-    requires { ⌜ (stampPlan st t (now pool) ≡ planned plan) × (roomOf (length (now pool) / 4096) st (bytesStamped t) plan ≡ 0) ⌝ }
+    requires { ⌜ (stampPlan (now pool) st t ≡ planned plan) × (roomOf (length (now pool) / 4096) st (bytesStamped t) plan ≡ 0) ⌝ }
     ensures { λ r. ⌜ grown (now (pool .exit)) r ≡ stampedAt d t plan (grown (now (pool .entry)) st) ⌝ }
 {
     let p = t.leaf;

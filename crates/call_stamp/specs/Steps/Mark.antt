@@ -27,5 +27,5 @@ pub record Stampable (s : List ℕ) (st : State) (x : Marking) : Type 0 where
   pub pool : goodPool s st ≡ true
   pub met : CellMet (st .used) (x .target .leaf) (x .target .cell) s
   pub is : x .target ≡ targetOf (x .target .leaf) (x .target .cell) (page (x .target .leaf) s)
-  pub plans : stampPlan st (x .target) s ≡ planned (x .plan)
+  pub plans : stampPlan s st (x .target) ≡ planned (x .plan)
   pub fits : roomOf (length s / 4096) st (bytesStamped (x .target)) (x .plan) ≡ 0

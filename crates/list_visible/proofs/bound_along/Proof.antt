@@ -11,7 +11,7 @@ use Rattle.list_visible.proofs.bound_along.Statement.{statement}
 use Rattle.list_visible.proofs.bound_along.Tie as tie
 
 abbrev Inv-loop : tie.InvT-loop
-Inv-loop pool used first p₀ here₀ left₀ p here left = (along lookBound used left here p pool ≡ along lookBound used used startBound first pool) × (here .size + left * 8192 ≤ used * 8192)
+Inv-loop pool used first p₀ here₀ left₀ p here left = (along pool used p lookBound left here ≡ along pool used first lookBound used startBound) × (here .size + left * 8192 ≤ used * 8192)
 
 abbrev μ-loop : tie.MeasureT-loop
 μ-loop pool used first p₀ here₀ left₀ p here left = left

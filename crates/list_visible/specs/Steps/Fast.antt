@@ -48,7 +48,7 @@ abbrev pub startBound : Bound
 startBound = record { last = 0; size = 0; falls = false }
 
 unfoldable pub boundAlong : List ℕ → (used p : ℕ) → ChainBound
-boundAlong s used p = toldBound (along lookBound used used startBound p s)
+boundAlong s used p = toldBound (along s used p lookBound used startBound)
 
 -- ---- the second pass
 
@@ -121,7 +121,7 @@ lookPass s sn st a p pg =
     (judgeLeaf p pg)
 
 unfoldable pub passAlong : List ℕ → (used p : ℕ) → Snapshot → (ℕ → ℕ) → Told Pass
-passAlong s used p sn st = along (lookPass s sn st) used used (record { scan = startScan; bytes = [] }) p s
+passAlong s used p sn st = along s used p (lookPass s sn st) used (record { scan = startScan; bytes = [] })
 
 -- the whole listing by this way
 abbrev pub passBytes : List ℕ → Told Pass → List ℕ

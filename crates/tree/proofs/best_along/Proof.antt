@@ -9,7 +9,7 @@ use Rattle.tree.proofs.best_along.Statement.{statement}
 use Rattle.tree.proofs.best_along.Tie as tie
 
 abbrev Inv-loop : tie.InvT-loop
-Inv-loop pool used first key xmax active cur ids states p₀ best₀ left₀ p best left = along (lookBest key (snapshot xmax active cur) (lookup (statuses ids states))) used left best p pool ≡ along (lookBest key (snapshot xmax active cur) (lookup (statuses ids states))) used used Best.Nothing first pool
+Inv-loop pool used first key xmax active cur ids states p₀ best₀ left₀ p best left = along pool used p (lookBest key (snapshot xmax active cur) (lookup (statuses ids states))) left best ≡ along pool used first (lookBest key (snapshot xmax active cur) (lookup (statuses ids states))) used Best.Nothing
 
 abbrev μ-loop : tie.MeasureT-loop
 μ-loop pool used first key xmax active cur ids states p₀ best₀ left₀ p best left = left

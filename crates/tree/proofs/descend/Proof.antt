@@ -9,7 +9,7 @@ use Rattle.tree.proofs.descend.Statement.{statement}
 use Rattle.tree.proofs.descend.Tie as tie
 
 abbrev Inv-loop : tie.InvT-loop
-Inv-loop pool used root route p₀ below₀ p below = (below ≤ 3) × (descendOf below route used p pool ≡ descendOf 3 route used root pool)
+Inv-loop pool used root route p₀ below₀ p below = (below ≤ 3) × (descendOf pool used p route below ≡ descendOf pool used root route 3)
 
 abbrev μ-loop : tie.MeasureT-loop
 μ-loop pool used root route p₀ below₀ p below = below

@@ -9,7 +9,7 @@ use Rattle.tree.proofs.test_along.Statement.{statement}
 use Rattle.tree.proofs.test_along.Tie as tie
 
 abbrev Inv-loop : tie.InvT-loop
-Inv-loop pool used first key xmax active cur ids states claiming seen p₀ found₀ left₀ p found left = along (lookTest key (snapshot xmax active cur) (lookup (statuses ids states)) claiming seen) used left found p pool ≡ along (lookTest key (snapshot xmax active cur) (lookup (statuses ids states)) claiming seen) used used false first pool
+Inv-loop pool used first key xmax active cur ids states claiming seen p₀ found₀ left₀ p found left = along pool used p (lookTest key (snapshot xmax active cur) (lookup (statuses ids states)) claiming seen) left found ≡ along pool used first (lookTest key (snapshot xmax active cur) (lookup (statuses ids states)) claiming seen) used false
 
 abbrev μ-loop : tie.MeasureT-loop
 μ-loop pool used first key xmax active cur ids states claiming seen p₀ found₀ left₀ p found left = left

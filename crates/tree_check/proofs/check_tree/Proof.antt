@@ -12,7 +12,7 @@ use Rattle.tree_check.proofs.check_tree.Statement.{statement}
 use Rattle.tree_check.proofs.check_tree.Tie as tie
 
 abbrev Inv-loop : tie.InvT-loop
-Inv-loop pool used root below₀ below = (below ≤ 4) × (wellFrom (4 - below) below used root pool ≡ isWellFormed used root pool)
+Inv-loop pool used root below₀ below = (below ≤ 4) × (wellFrom (4 - below) below used root pool ≡ isWellFormed pool used root)
 
 abbrev μ-loop : tie.MeasureT-loop
 μ-loop pool used root below₀ below = 4 - below

@@ -13,7 +13,7 @@ use Rattle.tree_check.specs.declared.InnerSound.{InnerSound}
 use Rattle.tree_check.specs.Check.{soundLeaf, soundInner}
 
 abbrev pub innerSound : (used parent p lo hi : ℕ) → List ℕ → InnerSound
-innerSound used parent p lo hi s = pick (soundInner used parent p lo hi s) (InnerSound.Ok (cellCount (page p s))) InnerSound.Ill
+innerSound used parent p lo hi s = pick (soundInner s used parent p lo hi) (InnerSound.Ok (cellCount (page p s))) InnerSound.Ill
 
 abbrev pub onFirst : {A : Type 0} → (ℕ → A) → A → Verdict → A
 onFirst good ill (Verdict.First q) = good q
@@ -26,9 +26,9 @@ kidsOf f lo (suc j) hi next pg =
     onFirst (λ q. pick (eqb q 0) Verdict.Ill (kidsOf f lo j (keyAt pg j) q pg)) Verdict.Ill (f (childAt pg (suc j)) (keyAt pg j) hi next)
 
 unfoldable pub checkOf : (k used : ℕ) → List ℕ → (parent p lo hi next : ℕ) → Verdict
-checkOf zero used s parent p lo hi next = pick (soundLeaf used parent p lo hi s && eqb (nextLeaf (page p s)) next) (Verdict.First p) Verdict.Ill
+checkOf zero used s parent p lo hi next = pick (soundLeaf s used parent p lo hi && eqb (nextLeaf (page p s)) next) (Verdict.First p) Verdict.Ill
 checkOf (suc k) used s parent p lo hi next =
-    pick (soundInner used parent p lo hi s) (kidsOf (checkOf k used s p) lo (cellCount (page p s)) hi next (page p s)) Verdict.Ill
+    pick (soundInner s used parent p lo hi) (kidsOf (checkOf k used s p) lo (cellCount (page p s)) hi next (page p s)) Verdict.Ill
 
 abbrev pub isFirst : Verdict → Bool
 isFirst v = onFirst (λ q. true) false v

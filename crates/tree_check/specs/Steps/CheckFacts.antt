@@ -15,4 +15,4 @@ LinksPart =
     → distinct (pagesOf k s root) ≡ true
 
 abbrev pub CheckIsWell : Type 0
-CheckIsWell = (k used root : ℕ) (s : List ℕ) → isFirst (checkOf k used s 0 root 0 4294967295 0) ≡ wellAt k used root s
+CheckIsWell = (k used root : ℕ) (s : List ℕ) → isFirst (checkOf k used s 0 root 0 4294967295 0) ≡ wellAt s used root k

@@ -16,7 +16,7 @@ use Rattle.tree_grow.specs.declared.plan.Plan.{Plan}
 -- what a climb from a leaf finds
 abbrev pub ClimbStands : Type 0
 ClimbStands =
-    (used root p : ℕ) (s ps : List ℕ) → p < used → climbOf 3 used root p s ≡ up (p ∷ ps) → Stands used p ps s
+    (used root p : ℕ) (s ps : List ℕ) → p < used → climbOf s used root p 3 ≡ up (p ∷ ps) → Stands used p ps s
 
 -- the pool s with the leaf p divided, its right side in the page that was next: no other page in use is changed by that
 pub record LeafDivided (s : List ℕ) (st : State) (p : ℕ) (g : Grown) : Type 0 where
@@ -33,5 +33,5 @@ Room asked g = (g .state .used + asked ≤ 65536) × ((g .state .used + asked) *
 abbrev pub PlanIsSafe : Type 0
 PlanIsSafe =
     (s : List ℕ) (st : State) (p sep : ℕ) (ps : List ℕ) (g : Grown) → p < st .used → nodeType (page p s) ≡ 1
-    → climbOf 3 (st .used) (st .root) p s ≡ up (p ∷ ps) → planOf (st .used) p ps s ≡ Plan.Ok (divisionOf ps s)
+    → climbOf s (st .used) (st .root) p 3 ≡ up (p ∷ ps) → planOf s (st .used) p ps ≡ Plan.Ok (divisionOf ps s)
     → LeafDivided s st p g → Room (pagesAsked (st .root) (divisionOf ps s)) g → AboveSafe (st .root) p sep (st .used) ps g

@@ -13,7 +13,7 @@ use Rattle.call_clean.proofs.remove.count_along.Tie as tie
 
 abbrev Inv-loop : tie.InvT-loop
 Inv-loop pool used first key p₀ count₀ left₀ p count left =
-    (along (lookHeld key) used left count p pool ≡ along (lookHeld key) used used 0 first pool) × (count + 65535 * left ≤ 65535 * used)
+    (along pool used p (lookHeld key) left count ≡ along pool used first (lookHeld key) used 0) × (count + 65535 * left ≤ 65535 * used)
 
 abbrev μ-loop : tie.MeasureT-loop
 μ-loop pool used first key p₀ count₀ left₀ p count left = left

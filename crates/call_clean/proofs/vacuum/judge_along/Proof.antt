@@ -9,7 +9,7 @@ use Rattle.call_clean.proofs.vacuum.judge_along.Statement.{statement}
 use Rattle.call_clean.proofs.vacuum.judge_along.Tie as tie
 
 abbrev Inv-loop : tie.InvT-loop
-Inv-loop pool used first p₀ left₀ p left = along lookLeaf used left 0 p pool ≡ along lookLeaf used used 0 first pool
+Inv-loop pool used first p₀ left₀ p left = along pool used p lookLeaf left 0 ≡ along pool used first lookLeaf used 0
 
 abbrev μ-loop : tie.MeasureT-loop
 μ-loop pool used first p₀ left₀ p left = left
