@@ -1,4 +1,4 @@
-// Runs of bytes in a lent slice: copy in, shift either way, zeros, and a body with a part replaced in place.
+// Runs of bytes in a lent slice: copy in, shift either way, and zeros.
 // `shift` also copies between two pages of one pool: both places are offsets into it.
 ghost use mathlib.Core.Path.{_≡_};
 ghost use Prim.Native.Nat.{_+_, _-_, _≤_};

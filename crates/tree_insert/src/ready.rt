@@ -12,6 +12,8 @@ ghost use Rattle.tree_insert.specs.Ready.{notReady, readyByRoom, readyAt
 ghost use Rattle.tree_insert.specs.declared.Spotted.{Spotted};
 use crate::Spot;
 use crate::Spotted;
+use call_answers::BAD_TREE;
+use call_answers::DUPLICATE;
 use leaf::find::Best;
 use leaf::place::Place;
 use mvcc::Current;
@@ -82,10 +84,10 @@ fn ready_at(pool: &[u8], st: State, key: u32, creator: u64, x: Spot, m: usize, s
     let told = crate::plan_insert(pool, st, x, m, key, creator);
     let plan = told.plan;
     if !told.ok {
-        return refused_by(2, told.fault);
+        return refused_by(BAD_TREE, told.fault);
     }
     if seen {
-        return refused(6);
+        return refused(DUPLICATE);
     }
     let pages = pool.len() / PAGE_SIZE;
     by_room(
@@ -101,7 +103,7 @@ pub fn version_at(pool: &[u8], st: State, key: u32, creator: u64, m: usize) -> R
     ensures { λ r. ⌜ r ≡ versionAt (now (pool .entry)) st key creator m ⌝ }
 {
     match crate::find_spot(pool, st.used, st.root, key, creator) {
-        Spotted::Bad(f) => refused_by(2, f),
+        Spotted::Bad(f) => refused_by(BAD_TREE, f),
         Spotted::Ok(x) => ready_at(pool, st, key, creator, x, m, false),
     }
 }
@@ -140,7 +142,7 @@ fn new_at_spot(
         ids,
         states,
     ) {
-        ChainBest::Bad(f) => refused_by(2, f),
+        ChainBest::Bad(f) => refused_by(BAD_TREE, f),
         ChainBest::Ok(best) => ready_at(pool, st, key, creator_of(cur), x, m, is_seen(best)),
     }
 }
@@ -159,7 +161,7 @@ pub fn new_at(
     ensures { λ r. ⌜ r ≡ newAt (now (pool .entry)) st key cur (statuses (now (ids .entry)) (now (states .entry))) m ⌝ }
 {
     match crate::find_spot(pool, st.used, st.root, key, creator_of(cur)) {
-        Spotted::Bad(f) => refused_by(2, f),
+        Spotted::Bad(f) => refused_by(BAD_TREE, f),
         Spotted::Ok(x) => new_at_spot(pool, st, key, cur, ids, states, x, m),
     }
 }

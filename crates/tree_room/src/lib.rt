@@ -4,6 +4,9 @@ ghost use mathlib.Core.Path.{_≡_};
 ghost use Prim.Native.Nat.{_*_, _≤_, _<_};
 ghost use lib.ListN.{length};
 ghost use Rattle.tree_room.specs.Room.{fitting, planned, unplanned, leafPlan, roomOf};
+use call_answers::NO_PAGES;
+use call_answers::TOO_DEEP;
+use call_answers::UNDIVIDABLE;
 use leaf::place::Cut;
 use page::pool::State;
 use row::Fault;
@@ -100,15 +103,15 @@ pub fn refusal(pages: usize, st: State, t: usize, x: Planned) -> u8
         return 0;
     }
     if !leaf::place::cut_fits(t, x.cut) {
-        return 9;
+        return UNDIVIDABLE;
     }
     if above.grows {
         if path.len == 4 {
-            return 11;
+            return TOO_DEEP;
         }
     }
     if pages < st.used as usize + 1 + tree_grow::plan::pages_asked(st.root, above) {
-        return 10;
+        return NO_PAGES;
     }
     0
 }

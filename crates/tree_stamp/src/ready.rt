@@ -9,6 +9,8 @@ ghost use Rattle.tree_stamp.specs.Steps.Target.{CellMet};
 ghost use Rattle.tree_stamp.specs.Ready.{notMarking, markingByRoom, markingAt};
 use crate::Beside;
 use crate::Target;
+use call_answers::BAD_TREE;
+use call_answers::CONFLICT;
 use page::PAGE_SIZE;
 use page::pool::State;
 use row::Cell;
@@ -92,13 +94,13 @@ pub fn marking_at(pool: &[u8], st: State, test: ChainTest, t: Target) -> Marking
     let told = crate::plan_stamp(pool, st, t);
     let plan = told.plan;
     if !told.ok {
-        return refused_by(2, told.fault);
+        return refused_by(BAD_TREE, told.fault);
     }
     match test {
-        ChainTest::Bad(f) => refused_by(2, f),
+        ChainTest::Bad(f) => refused_by(BAD_TREE, f),
         ChainTest::Ok(conflict) => {
             if conflict {
-                return refused(7);
+                return refused(CONFLICT);
             }
             let pages = pool.len() / PAGE_SIZE;
             by_room(
