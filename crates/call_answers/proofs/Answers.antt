@@ -1,8 +1,11 @@
--- The number and the value of an answer determine it (document 01, section 9). Assumes nothing.
+-- The number and the value of an answer determine it (document 01, section 9); an answer without its fault. Assumes nothing.
 use mathlib.Core.Path.{_≡_, refl, sym, ap, _∙_}
+use mathlib.Core.List.{List}
 use Prim.Native.Nat.{ℕ}
-use Rattle.call_answers.specs.Answer.{Value, value, nothing, Outcome, ofStated, ofFound, ofYesNo, ofCounted, OneAnswer}
+use Rattle.page.specs.declared.pool.State.{State}
+use Rattle.call_answers.specs.Answer.{Value, value, nothing, Outcome, ofStated, ofFound, ofYesNo, ofCounted, OneAnswer, Ended, ended, hideState, hideStateEnd}
 use Rattle.call_answers.specs.declared.Stated.{Stated}
+use Rattle.call_answers.specs.declared.Changed.{Changed}
 use Rattle.call_answers.specs.declared.Found.{Found}
 use Rattle.call_answers.specs.declared.YesNo.{YesNo}
 use Rattle.call_answers.specs.declared.Counted.{Counted}
@@ -46,3 +49,7 @@ one-counted = one-answer ofCounted Counted.Done Counted.Refused same
     same : (x : Counted) → back Counted.Done Counted.Refused (ofCounted x) ≡ x
     same (Counted.Done n) = refl
     same (Counted.Refused n) = refl
+
+-- what a call gives, without its fault
+pub hidden-end : {q : Changed} {o : Outcome State} {t : List ℕ} {e : Ended Changed} → ended q t ≡ e → o ≡ hideState q → ended o t ≡ hideStateEnd e
+hidden-end h u = rw u (ap hideStateEnd h)

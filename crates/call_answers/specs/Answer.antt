@@ -4,6 +4,7 @@ use mathlib.Core.Path.{_≡_}
 use mathlib.Core.Bool.{Bool}
 use mathlib.Core.List.{List}
 use Prim.Native.Nat.{ℕ}
+use Rattle.page.specs.Pool.{Grown}
 use Rattle.page.specs.declared.pool.State.{State}
 use Rattle.row.specs.Fault.{noFault}
 use Rattle.row.specs.declared.Fault.{Fault}
@@ -79,6 +80,13 @@ refusalOf n = record { number = n; fault = noFault }
 
 abbrev pub faulty : Fault → Refusal
 faulty f = record { number = BadTree; fault = f }
+
+-- a writing call is Done, with the pool and state that it comes to; or refused, and the pool stays
+abbrev pub changedTo : Grown → Ended Changed
+changedTo g = ended (Changed.Done (g .state)) (g .pool)
+
+abbrev pub stays : List ℕ → (number : ℕ) → Fault → Ended Changed
+stays s n f = ended (Changed.Refused (record { number = n; fault = f })) s
 
 abbrev pub hideState : Changed → Outcome State
 hideState (Changed.Done st) = done st

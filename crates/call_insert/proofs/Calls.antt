@@ -8,7 +8,7 @@ use borrow.Author.Tests.{le-leb, lt-leb, leb-true}
 use lib.Dec.{leb}
 use lib.ListN.{length}
 use Rattle.store.specs.Pick.{pick}
-use Rattle.page.specs.Pool.{goodPool}
+use Rattle.page.specs.Pool.{goodPool, grown}
 use Rattle.page.specs.declared.pool.State.{State}
 use Rattle.row.specs.Write.{cellSize, cellBytes}
 use Rattle.row.specs.declared.Stamp.{Stamp}
@@ -16,26 +16,21 @@ use Rattle.row.specs.declared.Pointer.{Pointer}
 use Rattle.mvcc.specs.Snapshot.{goodStatuses, creatorOf, Statuses}
 use Rattle.mvcc.specs.declared.Current.{Current}
 use Rattle.row.specs.Fault.{noFault}
-use Rattle.tree_grow.specs.Grow.{grown}
 use Rattle.tree_insert.specs.Insert.{insertedAt}
 use Rattle.tree_insert.specs.Ready.{notReady, versionAt, newAt}
 use Rattle.tree_insert.specs.declared.ready.Ready.{Ready}
-use Rattle.call_answers.specs.Answer.{ended, Ended, Outcome, hideStateEnd, hideState}
-use Rattle.call_insert.specs.Answer.{changedTo}
+use Rattle.call_answers.specs.Answer.{ended, Ended, Outcome, hideStateEnd, hideState, changedTo}
 use Rattle.call_insert.specs.Insert.{versionReady, insertVersionRun, insertVersionCall, insertReady, insertRun, insertCall}
 use Rattle.call_answers.specs.declared.Changed.{Changed}
 use Rattle.tree_insert.proofs.Storing.{cell-size}
 use Rattle.tree_insert.proofs.Answering.{Storable, version-ok, new-ok}
+use Rattle.call_answers.proofs.Answers.{hidden-end}
 
 -- what a judgement that is ok says, of data of len bytes and a cell of m
 pub record Stores (s : List ℕ) (st : State) (key creator m len : ℕ) (r : Ready) : Type 0 where
   pub good : goodPool s st ≡ true
   pub short : len ≤ 4051
   pub storable : Storable s st key creator m r
-
--- what a call gives, without its fault
-pub hidden-end : {q : Changed} {o : Outcome State} {t : List ℕ} {e : Ended Changed} → ended q t ≡ e → o ≡ hideState q → ended o t ≡ hideStateEnd e
-hidden-end h u = rw u (ap hideStateEnd h)
 
 -- a cell is at most 33 bytes longer than its data
 pub size-small : (stamp : Stamp) (pointer : Pointer) (len : ℕ) {m : ℕ} → len ≤ 4051 → m ≡ cellSize stamp pointer len → m ≤ 4084

@@ -4,20 +4,18 @@ use mathlib.Core.List.{List}
 use Prim.Native.Nat.{ℕ}
 use lib.Dec.{leb}
 use lib.ListN.{length}
-use Rattle.page.specs.Pool.{goodPool}
+use Rattle.page.specs.Pool.{goodPool, grown}
 use Rattle.page.specs.declared.pool.State.{State}
 use Rattle.row.specs.Write.{cellSize, cellBytes, maxData}
 use Rattle.row.specs.declared.Stamp.{Stamp}
 use Rattle.row.specs.declared.Pointer.{Pointer}
 use Rattle.mvcc.specs.Snapshot.{goodStatuses, creatorOf, Statuses}
 use Rattle.mvcc.specs.declared.Current.{Current}
-use Rattle.tree_grow.specs.Grow.{grown}
 use Rattle.tree_insert.specs.Insert.{insertedAt}
 use Rattle.row.specs.Fault.{noFault}
 use Rattle.tree_insert.specs.Ready.{notReady, onReady, versionAt, newAt}
 use Rattle.tree_insert.specs.declared.ready.Ready.{Ready}
-use Rattle.call_answers.specs.Answer.{Ended, Outcome, hideStateEnd}
-use Rattle.call_insert.specs.Answer.{stays, changedTo}
+use Rattle.call_answers.specs.Answer.{Ended, Outcome, hideStateEnd, stays, changedTo}
 use Rattle.call_answers.specs.declared.Changed.{Changed}
 use Rattle.call_answers.specs.Names.{BadData, BadPool, BadStatuses, unless}
 

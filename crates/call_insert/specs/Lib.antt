@@ -1,3 +1,2 @@
 -- What a reader of the contracts of `call_insert` has to believe.
-pub mod Answer
 pub mod Insert

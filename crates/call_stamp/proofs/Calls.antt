@@ -5,29 +5,27 @@ use mathlib.Core.List.{List}
 use Prim.Native.Nat.{ℕ}
 use borrow.Author.Tests.{eq-eqb, ne-eqb}
 use Rattle.page.specs.Page.{page}
-use Rattle.page.specs.Pool.{goodPool}
+use Rattle.page.specs.Pool.{goodPool, grown}
 use Rattle.page.specs.declared.pool.State.{State}
 use Rattle.row.specs.declared.Cell.{Cell}
 use Rattle.mvcc.specs.Snapshot.{lookup, creatorOf, Snapshot, Statuses}
 use Rattle.tree.specs.Lookup.{testInTree}
 use Rattle.tree.specs.declared.ChainTest.{ChainTest}
-use Rattle.tree_grow.specs.Grow.{grown}
 use Rattle.row.specs.Fault.{noFault}
 use Rattle.tree_stamp.specs.Target.{targetOf}
 use Rattle.tree_stamp.specs.Stamp.{stampedAt}
 use Rattle.tree_stamp.specs.Ready.{notMarking, markingAt}
 use Rattle.tree_stamp.specs.declared.Target.{Target}
 use Rattle.tree_stamp.specs.declared.ready.Marking.{Marking}
-use Rattle.call_answers.specs.Answer.{ended, Ended, Outcome, hideState}
+use Rattle.call_answers.specs.Answer.{ended, Ended, Outcome, hideState, changedTo}
 use Rattle.call_read.specs.Find.{findVisibleRun}
 use Rattle.call_answers.specs.declared.Looked.{Looked}
 use Rattle.call_answers.specs.declared.Refusal.{Refusal}
-use Rattle.call_insert.specs.Answer.{changedTo}
 use Rattle.call_answers.specs.declared.Changed.{Changed}
 use Rattle.call_stamp.specs.Steps.Mark.{notFound}
 use Rattle.call_stamp.specs.Mark.{markReady, marked, markRun, markCall}
 use Rattle.call_stamp.specs.Claim.{claimReady, claimRun, claimCall}
-use Rattle.call_insert.proofs.Calls.{hidden-end}
+use Rattle.call_answers.proofs.Answers.{hidden-end}
 
 module _ (claiming : Bool) (s : List ℕ) (st : State) (key : ℕ) (sn : Snapshot) (ss : Statuses) {looked : Looked}
     (is : looked ≡ findVisibleRun s st key sn ss) {m : Marking} where

@@ -11,16 +11,15 @@ use Rattle.mvcc.specs.Snapshot.{lookup, creatorOf, Snapshot, Statuses, plainSna
 use Rattle.mvcc.specs.declared.Current.{Current}
 use Rattle.tree.specs.Lookup.{testInTree}
 use Rattle.tree.specs.declared.ChainTest.{ChainTest}
-use Rattle.tree_grow.specs.Grow.{grown}
+use Rattle.page.specs.Pool.{grown}
 use Rattle.tree_stamp.specs.Target.{targetOf}
 use Rattle.tree_stamp.specs.Stamp.{stampedAt}
 use Rattle.tree_stamp.specs.Ready.{notMarking, onMarking, markingAt}
 use Rattle.tree_stamp.specs.declared.ready.Marking.{Marking}
-use Rattle.call_answers.specs.Answer.{Ended, Outcome, hideStateEnd}
+use Rattle.call_answers.specs.Answer.{Ended, Outcome, hideStateEnd, stays, changedTo}
 use Rattle.call_read.specs.Find.{findVisibleRun}
 use Rattle.call_answers.specs.declared.Looked.{Looked}
 use Rattle.call_answers.specs.declared.Refusal.{Refusal}
-use Rattle.call_insert.specs.Answer.{stays, changedTo}
 use Rattle.call_answers.specs.declared.Changed.{Changed}
 
 -- "anything but a found version leaving at once"

@@ -5,7 +5,6 @@ use Prim.Native.Nat.{ℕ, _+_, _*_, _≤_, _<_}
 use native.Mathlib.Omega.{arith}
 use lib.ListN.{length, List·getD-eq-default, length-take}
 use Rattle.store.specs.Le.{AreBytes}
-use Rattle.store.specs.Part.{part}
 use Rattle.page.specs.Page.{page}
 use Rattle.store.proofs.PartLaws.{le-or-lt, getD-part, bytes-part}
 

@@ -21,7 +21,7 @@ use Rattle.leaf.specs.Rows.{Row, RowFits, rowOf, rowSize, rowBytes}
 use Rattle.leaf.specs.declared.find.Best.{Best}
 use Rattle.tree.specs.declared.ChainBest.{ChainBest}
 use Rattle.tree.specs.declared.ChainTest.{ChainTest}
-use Rattle.tree_grow.specs.Grow.{Grown, grown}
+use Rattle.page.specs.Pool.{Grown, grown}
 use Rattle.row.specs.Fault.{noFault}
 use Rattle.tree_insert.specs.Insert.{insertedAt}
 use Rattle.tree_insert.specs.Ready.{ready, notReady, onReady, readyByRoom}
@@ -30,9 +30,8 @@ use Rattle.tree_stamp.specs.Target.{targetOf}
 use Rattle.tree_stamp.specs.Ready.{marking, notMarking, markingByRoom, markingAt}
 use Rattle.tree_stamp.specs.declared.ready.Marking.{Marking}
 use Rattle.call_read.specs.Find.{lookedBest, findVisibleRun}
-use Rattle.call_answers.specs.Answer.{refusalOf, hideStateEnd}
+use Rattle.call_answers.specs.Answer.{refusalOf, hideStateEnd, stays, changedTo}
 use Rattle.call_answers.specs.declared.Looked.{Looked}
-use Rattle.call_insert.specs.Answer.{stays, changedTo}
 use Rattle.call_insert.specs.Insert.{insertVersionRun, insertVersionCall, insertRun, insertCall}
 use Rattle.call_stamp.specs.Mark.{onLooked, conflictTold, markReady, marked, markRun, markCall}
 use Rattle.call_stamp.specs.Claim.{claimReady, claimRun, claimCall}

@@ -8,7 +8,7 @@ use native.Mathlib.Omega.{arith}
 use Rattle.page.specs.declared.pool.State.{State}
 use Rattle.mvcc.specs.Lists.{mem}
 use Rattle.leaf.specs.Rows.{Row}
-use Rattle.tree_grow.specs.Grow.{Grown}
+use Rattle.page.specs.Pool.{Grown}
 use Rattle.call_answers.specs.Answer.{refused, ended, Ended, Outcome, nothing, Value, done}
 use Rattle.call_stamp.specs.Claim.{claimCall}
 use Rattle.theory_tree.specs.Shape.{Shape, chain}

@@ -4,8 +4,7 @@ use mathlib.Core.Bool.{true}
 use mathlib.Core.List.{List}
 use Prim.Native.Nat.{ℕ}
 use lib.ListN.{length}
-use Rattle.page.specs.Pool.{goodPool}
-use Rattle.tree_grow.specs.Grow.{Grown}
+use Rattle.page.specs.Pool.{goodPool, Grown}
 use Rattle.call_answers.specs.Answer.{Ended, Outcome}
 use Rattle.theory_tree.specs.Shape.{Shape}
 use Rattle.meaning.specs.Trees.{TreeIn}

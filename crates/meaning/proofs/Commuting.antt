@@ -1,6 +1,6 @@
 -- Demand 3's first half, from what each call does: two calls on different keys, room refusals aside. Assumes nothing.
 use mathlib.Core.Path.{_≡_, sym, _∙_}
-use Rattle.tree_grow.specs.Grow.{Grown}
+use Rattle.page.specs.Pool.{Grown}
 use Rattle.theory_tree.specs.Shape.{Shape, chain}
 use Rattle.theory_tree.specs.Versions.{SameVersions}
 use Rattle.meaning.specs.Trees.{TreeIn}

@@ -7,7 +7,7 @@ use Rattle.store.specs.Part.{zeros}
 use Rattle.page.specs.declared.pool.State.{State}
 use Rattle.mvcc.specs.Lists.{mem}
 use Rattle.tree.specs.Distinct.{distinct}
-use Rattle.tree_grow.specs.Grow.{grown}
+use Rattle.page.specs.Pool.{grown}
 use Rattle.theory_tree.specs.Pages.{Pages, leafPage, innerPage, withPage}
 use Rattle.theory_tree.specs.View.{view}
 use Rattle.theory_tree.specs.Shape.{Shape, leaf, node, pair, pagesIn, Deep, WellFormed}

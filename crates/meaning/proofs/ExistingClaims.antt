@@ -21,7 +21,7 @@ use Rattle.leaf.specs.Find.{newest}
 use Rattle.leaf.specs.Rows.{Row, rowOf, rows, rowsBytes}
 use Rattle.tree.specs.Climb.{pathOf}
 use Rattle.tree.specs.declared.ChainTest.{ChainTest}
-use Rattle.tree_grow.specs.Grow.{Grown, grown}
+use Rattle.page.specs.Pool.{Grown, grown}
 use Rattle.tree_room.specs.Room.{planned, fitting, roomOf}
 use Rattle.tree_stamp.specs.Target.{besideOf, targetOf}
 use Rattle.tree_stamp.specs.Stamp.{longer, bytesStamped, cutStamped, stampPlan}

@@ -16,7 +16,7 @@ use Rattle.row.specs.declared.Pointer.{Pointer}
 use Rattle.row.specs.declared.Stamp.{Stamp}
 use Rattle.leaf.specs.Rows.{Row, AllFit, rowBytes, rowsBytes, writeRows}
 use Rattle.inner_edit.specs.Edit.{topPage}
-use Rattle.tree_grow.specs.Grow.{grown}
+use Rattle.page.specs.Pool.{grown}
 use Rattle.theory_tree.specs.Pages.{Page, leafPage, innerPage, Pages, withPage}
 use Rattle.theory_tree.specs.View.{said, view}
 use Rattle.theory_tree.specs.Shape.{Shape, WellFormed}

@@ -26,7 +26,7 @@ use Rattle.leaf.specs.declared.place.Cut.{Cut}
 use Rattle.tree.specs.Climb.{pathOf}
 use Rattle.tree.specs.declared.ChainBest.{ChainBest}
 use Rattle.tree.specs.declared.ChainTest.{ChainTest}
-use Rattle.tree_grow.specs.Grow.{Grown}
+use Rattle.page.specs.Pool.{Grown}
 use Rattle.tree_grow.specs.Plan.{divisionOf}
 use Rattle.row.specs.Fault.{noFault}
 use Rattle.tree_room.specs.Room.{dividing, roomOf}
@@ -42,9 +42,8 @@ use Rattle.tree_stamp.specs.Ready.{marking, notMarking, markingByRoom, markingA
 use Rattle.tree_stamp.specs.declared.Target.{Target}
 use Rattle.tree_stamp.specs.declared.ready.Marking.{Marking}
 use Rattle.call_read.specs.Find.{lookedBest, findVisibleRun}
-use Rattle.call_answers.specs.Answer.{refusalOf}
+use Rattle.call_answers.specs.Answer.{refusalOf, stays, changedTo}
 use Rattle.call_answers.specs.declared.Looked.{Looked}
-use Rattle.call_insert.specs.Answer.{stays, changedTo}
 use Rattle.call_insert.specs.Insert.{insertVersionRun, insertVersionCall, insertRun, insertCall}
 use Rattle.call_stamp.specs.Mark.{onLooked, conflictTold, markReady, marked, markRun, markCall}
 use Rattle.call_stamp.specs.Claim.{claimReady, claimRun, claimCall}

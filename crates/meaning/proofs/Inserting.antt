@@ -12,7 +12,7 @@ use Rattle.page.specs.Page.{page}
 use Rattle.page.specs.declared.pool.State.{State}
 use Rattle.leaf.specs.Rows.{Row, RowFits, rowSize, rowBytes, rowsBytes, rows}
 use Rattle.leaf.specs.declared.place.Cut.{Cut}
-use Rattle.tree_grow.specs.Grow.{Grown}
+use Rattle.page.specs.Pool.{Grown}
 use Rattle.tree_grow.specs.Plan.{divisionOf}
 use Rattle.tree_room.specs.Room.{roomOf}
 use Rattle.tree_insert.specs.Insert.{bytesWith, cutWith, splicedAt, insertedAt}

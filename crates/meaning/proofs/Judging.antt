@@ -24,7 +24,7 @@ use Rattle.leaf.specs.Rows.{Row}
 use Rattle.leaf.specs.declared.find.Best.{Best}
 use Rattle.leaf.specs.declared.place.Cut.{Cut}
 use Rattle.tree.specs.declared.ChainTest.{ChainTest}
-use Rattle.tree_grow.specs.Grow.{Grown}
+use Rattle.page.specs.Pool.{Grown}
 use Rattle.tree_grow.specs.Plan.{pagesAsked}
 use Rattle.row.specs.Fault.{noFault}
 use Rattle.tree_room.specs.Room.{planned, growsTooDeep, leafPlan, roomOf}

@@ -6,12 +6,11 @@ use Prim.Native.Nat.{ℕ}
 use native.Mathlib.Omega.{arith}
 use Rattle.store.specs.Le.{AreBytes}
 use Rattle.store.specs.Pick.{pick}
-use Rattle.page.specs.Pool.{goodPool}
+use Rattle.page.specs.Pool.{goodPool, Grown}
 use Rattle.mvcc.specs.Snapshot.{lookup, goodStatuses, Snapshot, Statuses, goodSnapshot}
 use Rattle.leaf.specs.declared.find.Best.{Best}
 use Rattle.tree_check.specs.Check.{isWellFormed}
 use Rattle.tree.specs.declared.ChainBest.{ChainBest}
-use Rattle.tree_grow.specs.Grow.{Grown}
 use Rattle.call_answers.specs.Answer.{refused, done, Outcome, nothing, value, Value}
 use Rattle.call_read.specs.Check.{checkCall}
 use Rattle.call_read.specs.Find.{lookedBest, findVisibleRun}

@@ -9,7 +9,7 @@ use lib.Dec.{leb, eqb}
 use lib.ListN.{length}
 use Rattle.store.specs.Le.{AreBytes}
 use Rattle.page.specs.Page.{page}
-use Rattle.page.specs.Pool.{goodPool}
+use Rattle.page.specs.Pool.{goodPool, Grown, grown}
 use Rattle.page.specs.declared.pool.State.{State}
 use Rattle.row.specs.Write.{cellSize, cellBytes}
 use Rattle.row.specs.declared.Fault.{Fault}
@@ -25,7 +25,6 @@ use Rattle.tree.specs.declared.Route.{Route}
 use Rattle.tree.specs.declared.Descent.{Descent}
 use Rattle.tree.specs.declared.ChainBest.{ChainBest}
 use Rattle.tree.specs.declared.ChainTest.{ChainTest}
-use Rattle.tree_grow.specs.Grow.{Grown, grown}
 use Rattle.tree_grow.specs.Plan.{pagesAsked}
 use Rattle.row.specs.Fault.{noFault}
 use Rattle.tree_room.specs.Room.{growsTooDeep, roomOf}
@@ -42,11 +41,10 @@ use Rattle.tree_stamp.specs.Stamp.{bytesStamped, stampPlan}
 use Rattle.tree_stamp.specs.Ready.{notMarking, onTest, markingByRoom, markingAt}
 use Rattle.tree_stamp.specs.declared.Target.{Target}
 use Rattle.tree_stamp.specs.declared.ready.Marking.{Marking}
-use Rattle.call_answers.specs.Answer.{ended, Ended, faulty, refusalOf, hideStateEnd, hideCountEnd}
+use Rattle.call_answers.specs.Answer.{ended, Ended, faulty, refusalOf, hideStateEnd, hideCountEnd, stays, changedTo}
 use Rattle.call_read.specs.Find.{findVisibleRun}
 use Rattle.call_answers.specs.declared.Looked.{Looked}
 use Rattle.call_answers.specs.declared.Refusal.{Refusal}
-use Rattle.call_insert.specs.Answer.{stays, changedTo}
 use Rattle.call_insert.specs.Insert.{versionReady, insertVersionRun, insertVersionCall, insertReady, insertRun, insertCall}
 use Rattle.call_answers.specs.declared.Changed.{Changed}
 use Rattle.call_stamp.specs.Mark.{onLooked, conflictTold, markReady, marked, markRun, markCall, markPlainCall, deleteCall}

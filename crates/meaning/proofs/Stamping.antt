@@ -20,7 +20,7 @@ use Rattle.leaf.specs.Rows.{Row, rowOf, rowsBytes}
 use Rattle.leaf.specs.RowFacts.{Sound}
 use Rattle.leaf.specs.declared.place.Cut.{Cut}
 use Rattle.leaf_edit.specs.EditFacts.{stampRow}
-use Rattle.tree_grow.specs.Grow.{Grown}
+use Rattle.page.specs.Pool.{Grown}
 use Rattle.tree_grow.specs.Plan.{divisionOf}
 use Rattle.tree_room.specs.Room.{roomOf}
 use Rattle.tree_room.specs.Up.{dividedUp}

@@ -12,12 +12,11 @@ use Rattle.store.specs.Le.{AreBytes}
 use Rattle.store.specs.Part.{part}
 use Rattle.store.specs.Pick.{pick}
 use Rattle.page.specs.Page.{page, setPage}
-use Rattle.page.specs.Pool.{goodPool}
+use Rattle.page.specs.Pool.{goodPool, Grown, grown}
 use Rattle.page.specs.declared.pool.State.{State}
 use Rattle.leaf.specs.Rows.{Row, AllFit, rowsBytes, writeRows}
 use Rattle.leaf.specs.declared.place.Cut.{Cut}
 use Rattle.tree.specs.Climb.{pathOf}
-use Rattle.tree_grow.specs.Grow.{Grown, grown}
 use Rattle.tree_grow.specs.Plan.{divisionOf}
 use Rattle.tree_grow.specs.Steps.Safe.{There}
 use Rattle.tree_room.specs.Room.{dividing}

@@ -12,7 +12,7 @@ use Rattle.leaf.specs.declared.Judged.{Judged}
 use Rattle.leaf.specs.declared.find.Best.{Best}
 use Rattle.tree.specs.Chain.{Seen, stop, go, ok, along}
 use Rattle.tree.specs.declared.ChainBest.{ChainBest}
-use Rattle.tree_grow.specs.Grow.{Grown}
+use Rattle.page.specs.Pool.{Grown}
 use Rattle.list_records.specs.Records.{records}
 use Rattle.list_versions.specs.Gather.{lookRows, rowsAlong}
 use Rattle.theory_tree.specs.Versions.{best}

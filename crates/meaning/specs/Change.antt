@@ -11,7 +11,7 @@ use Rattle.row.specs.declared.Stamp.{Stamp}
 use Rattle.row.specs.declared.Pointer.{Pointer}
 use Rattle.mvcc.specs.Lists.{mem}
 use Rattle.mvcc.specs.declared.Current.{Current}
-use Rattle.tree_grow.specs.Grow.{Grown, grown}
+use Rattle.page.specs.Pool.{Grown, grown}
 use Rattle.mvcc.specs.Snapshot.{creatorOf, Snapshot, Statuses}
 use Rattle.call_answers.specs.Answer.{Ended, Outcome, nothing, value, Value}
 use Rattle.call_insert.specs.Insert.{insertCall, insertVersionCall}

@@ -8,7 +8,7 @@ use Rattle.page.specs.Page.{page}
 use Rattle.leaf.specs.Rows.{Row, rowOf}
 use Rattle.mvcc.specs.Snapshot.{lookup, goodStatuses, Snapshot, Statuses, creatorOf, goodSnapshot}
 use Rattle.mvcc.specs.Rules.{changedAfter}
-use Rattle.tree_grow.specs.Grow.{Grown}
+use Rattle.page.specs.Pool.{Grown}
 use Rattle.call_answers.specs.Answer.{refused, ended}
 use Rattle.call_stamp.specs.Claim.{claimCall}
 use Rattle.call_read.specs.Find.{findVisibleRun}

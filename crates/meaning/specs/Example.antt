@@ -6,7 +6,7 @@ use mathlib.Core.List.{[], _∷_}
 use Prim.Native.Nat.{ℕ}
 use Rattle.mvcc.specs.Rules.{changedAfter}
 use Rattle.mvcc.specs.declared.Current.{Current}
-use Rattle.tree_grow.specs.Grow.{Grown}
+use Rattle.page.specs.Pool.{Grown}
 use Rattle.call_read.specs.Find.{findVisibleRun}
 use Rattle.theory_tree.specs.Shape.{Shape, Deep}
 use Rattle.meaning.specs.Trees.{TreeIn}

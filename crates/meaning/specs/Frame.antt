@@ -5,7 +5,7 @@ use mathlib.Core.List.{List}
 use Prim.Native.Nat.{ℕ, _<_}
 use Rattle.page.specs.Page.{page}
 use Rattle.mvcc.specs.Lists.{mem}
-use Rattle.tree_grow.specs.Grow.{Grown}
+use Rattle.page.specs.Pool.{Grown}
 use Rattle.call_clean.specs.Vacuum.{vacuumCall}
 use Rattle.theory_tree.specs.Shape.{Shape, pagesIn}
 use Rattle.meaning.specs.Trees.{TreeIn}

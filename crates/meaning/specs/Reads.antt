@@ -6,12 +6,11 @@ use mathlib.Core.List.{List, [], _∷_, _++_}
 use Prim.Native.Nat.{ℕ}
 use Rattle.call_answers.specs.Names.{Absent}
 use Rattle.store.specs.Le.{AreBytes}
-use Rattle.page.specs.Pool.{goodPool}
+use Rattle.page.specs.Pool.{goodPool, Grown, grown}
 use Rattle.mvcc.specs.Snapshot.{lookup, goodStatuses, Snapshot, Statuses, goodSnapshot}
 use Rattle.mvcc.specs.Rules.{conflicting}
 use Rattle.leaf_vacuum.specs.Vacuum.{keptRows, droppedRows}
 use Rattle.tree.specs.Create.{rooted}
-use Rattle.tree_grow.specs.Grow.{Grown, grown}
 use Rattle.list_records.specs.Listed.{fitted}
 use Rattle.call_answers.specs.Answer.{Written, done, Ended, Outcome, hideList}
 use Rattle.list_records.specs.Records.{records}

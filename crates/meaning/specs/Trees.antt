@@ -2,8 +2,7 @@
 use mathlib.Core.Path.{_≡_}
 use mathlib.Core.Bool.{true}
 use Rattle.store.specs.Le.{AreBytes}
-use Rattle.page.specs.Pool.{goodPool}
-use Rattle.tree_grow.specs.Grow.{Grown}
+use Rattle.page.specs.Pool.{goodPool, Grown}
 use Rattle.theory_tree.specs.Shape.{Shape, WellFormed}
 use Rattle.theory_tree.specs.View.{view}
 use Rattle.call_answers.specs.Answer.{done}

@@ -10,6 +10,14 @@ use Rattle.page.specs.Page.{setPage}
 use Rattle.page.specs.declared.pool.State.{State}
 use Rattle.page.specs.declared.pool.Allocated.{Allocated}
 
+-- the pool and the tree's numbers, which change together
+pub record Grown : Type 0 where
+  pub pool : List ℕ
+  pub state : State
+
+abbrev pub grown : List ℕ → State → Grown
+grown s st = record { pool = s; state = st }
+
 abbrev pub maxPages : ℕ
 maxPages = 65536
 

@@ -14,14 +14,14 @@ use Rattle.store.specs.Pick.{pick}
 use Rattle.page.specs.Header.{nodeType, cellCount, nextLeaf, withIsRoot, withParent, withCount}
 use Rattle.page.specs.Key.{rankAt}
 use Rattle.page.specs.Page.{page, setPage}
-use Rattle.page.specs.Pool.{nextPage, allocated, withFresh}
+use Rattle.page.specs.Pool.{nextPage, allocated, withFresh, Grown, grown}
 use Rattle.page.specs.declared.pool.State.{State}
 use Rattle.leaf.specs.declared.place.Cut.{Cut}
 use Rattle.leaf_divide.specs.Divide.{leftLeaf, rightLeaf, divided}
 use Rattle.inner.specs.Inner.{keyAt, childAt}
 use Rattle.inner_edit.specs.Edit.{topPage, adopted}
 use Rattle.tree.specs.Climb.{pathOf}
-use Rattle.tree_grow.specs.Grow.{Grown, grown, linked, linkedBoth, topOver, enterOf, movedTo, relinked, topIn, pinOf, keptRoot, settled}
+use Rattle.tree_grow.specs.Grow.{linked, linkedBoth, topOver, enterOf, movedTo, relinked, topIn, pinOf, keptRoot, settled}
 use Rattle.tree_grow.specs.Steps.Safe.{There}
 use Rattle.tree_room.specs.Up.{dividedUp}
 use Rattle.tree_room.specs.declared.Planned.{Planned}

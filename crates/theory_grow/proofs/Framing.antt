@@ -16,7 +16,7 @@ use Rattle.store.specs.Pick.{pick}
 use Rattle.page.specs.Header.{nodeType, cellCount, withIsRoot, withParent}
 use Rattle.page.specs.Key.{rankAt}
 use Rattle.page.specs.Page.{page, setPage}
-use Rattle.page.specs.Pool.{nextPage, allocated, withFresh}
+use Rattle.page.specs.Pool.{nextPage, allocated, withFresh, Grown, grown}
 use Rattle.page.specs.declared.pool.State.{State}
 use Rattle.mvcc.specs.Lists.{mem}
 use Rattle.leaf.specs.Rows.{Row, rowsBytes}
@@ -25,12 +25,12 @@ use Rattle.inner.specs.Inner.{keyAt, childAt, childrenFrom, childrenOf}
 use Rattle.inner_edit.specs.Edit.{entered, withEntry, leftHalf, middleKey, rightHalf, topPage, adopted}
 use Rattle.inner_edit.specs.Facts.{insertAt, IsPage}
 use Rattle.tree.specs.Climb.{pathOf}
-use Rattle.tree_grow.specs.Grow.{Grown, grown, linked, linkedBoth, topOver, placeIn, halved, movedTo, relinked, topIn, pinOf, enterOf, keptRoot, settled}
+use Rattle.tree_grow.specs.Grow.{linked, linkedBoth, topOver, placeIn, halved, movedTo, relinked, topIn, pinOf, enterOf, keptRoot, settled}
 use Rattle.tree_grow.specs.Steps.PlanFacts.{LeafDivided}
 use Rattle.tree_grow.specs.Steps.Safe.{There, Free}
 use Rattle.tree_room.specs.Up.{dividedUp}
 use Rattle.tree_room.specs.declared.Planned.{Planned}
-use Rattle.theory_tree.specs.Pages.{leafPage, innerPage, Pages, withPage}
+use Rattle.theory_tree.specs.Pages.{leafPage, innerPage, Pages}
 use Rattle.theory_tree.specs.Shape.{Shape, leaf, node, pair, pagesIn, head, rest, first, All, WellFormed}
 use Rattle.theory_tree.specs.View.{said, view}
 use Rattle.store.proofs.LeLaws.{length-putAt, leAt-putAt}

@@ -14,9 +14,9 @@ use Rattle.store.specs.Le.{AreBytes}
 use Rattle.store.specs.Pick.{pick}
 use Rattle.page.specs.Page.{page}
 use Rattle.page.specs.Header.{cellCount}
-use Rattle.page.specs.Pool.{nextPage}
+use Rattle.page.specs.Pool.{nextPage, Grown, grown}
 use Rattle.inner_edit.specs.Edit.{middleKey}
-use Rattle.tree_grow.specs.Grow.{Grown, grown, linked, topOver, placeIn, joinedTo, halved, enterOf}
+use Rattle.tree_grow.specs.Grow.{linked, topOver, placeIn, joinedTo, halved, enterOf}
 use Rattle.tree_grow.specs.Steps.Safe.{There, Free}
 use Rattle.theory_tree.specs.Pages.{Page, innerPage, Pages, withPage}
 use Rattle.theory_tree.specs.Shape.{Shape, node, pair, pagesIn, head, rest, Holds, All}

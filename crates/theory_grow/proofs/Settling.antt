@@ -16,14 +16,14 @@ use Rattle.store.specs.Part.{part, zeros}
 use Rattle.store.specs.Pick.{pick}
 use Rattle.page.specs.Key.{rankAt}
 use Rattle.page.specs.Page.{page}
-use Rattle.page.specs.Pool.{nextPage, allocated, withFresh}
+use Rattle.page.specs.Pool.{nextPage, allocated, withFresh, Grown, grown}
 use Rattle.page.specs.declared.pool.State.{State}
 use Rattle.row.specs.Read.{cellAt}
 use Rattle.row.specs.declared.read.CellRead.{CellRead}
 use Rattle.leaf.specs.Cells.{onCell, cellsOf}
 use Rattle.leaf.specs.Rows.{Row, AllFit, rowOf, rowsOf, rowsBytes}
 use Rattle.tree.specs.Climb.{pathOf}
-use Rattle.tree_grow.specs.Grow.{Grown, grown, enterOf, pinOf, keptRoot, settled}
+use Rattle.tree_grow.specs.Grow.{enterOf, pinOf, keptRoot, settled}
 use Rattle.tree_grow.specs.Steps.Safe.{There}
 use Rattle.tree_room.specs.Up.{dividedUp}
 use Rattle.tree_room.specs.declared.Planned.{Planned}

@@ -12,12 +12,12 @@ use Rattle.store.specs.Part.{part, pad, zeros}
 use Rattle.page.specs.Page.{page, setPage}
 use Rattle.page.specs.Header.{cellCount, nextLeaf, withNodeType, withIsRoot, withParent}
 use Rattle.page.specs.Key.{flip, keyBytes}
-use Rattle.page.specs.Pool.{nextPage, withFresh}
+use Rattle.page.specs.Pool.{nextPage, withFresh, Grown}
 use Rattle.page.specs.declared.pool.State.{State}
 use Rattle.inner.specs.Inner.{keyAt, childAt, childrenFrom}
 use Rattle.inner_edit.specs.Edit.{pairBytes, entered, withEntry, leftHalf, rightHalf, topPage, adopted}
 use Rattle.inner_edit.specs.Facts.{IsPage}
-use Rattle.tree_grow.specs.Grow.{Grown, linked, linkedBoth, topOver, placeIn, joinedTo, halved, relinked, topIn, pinOf}
+use Rattle.tree_grow.specs.Grow.{linked, linkedBoth, topOver, placeIn, joinedTo, halved, relinked, topIn, pinOf}
 use Rattle.tree_grow.specs.Steps.Safe.{There, Free}
 use Rattle.theory_tree.specs.Pages.{Page, leafPage, innerPage, noPage, Pages, withPage}
 use Rattle.theory_tree.specs.Shape.{All}

@@ -12,7 +12,7 @@ use Rattle.store.specs.Part.{part, zeros}
 use Rattle.page.specs.Page.{page, setPage}
 use Rattle.page.specs.Header.{cellCount}
 use Rattle.page.specs.Key.{rankAt}
-use Rattle.page.specs.Pool.{nextPage, allocated, withFresh}
+use Rattle.page.specs.Pool.{nextPage, allocated, withFresh, Grown, grown}
 use Rattle.page.specs.declared.pool.State.{State}
 use Rattle.page.specs.declared.pool.Allocated.{Allocated}
 use Rattle.inner.specs.Inner.{childrenFrom}
@@ -21,7 +21,7 @@ use Rattle.inner_edit.specs.Edit.{withEntry, leftHalf, middleKey, rightHalf, to
 use Rattle.inner_edit.specs.Steps.Edit.{AdoptSafe}
 use Rattle.tree.specs.declared.climb.Path.{Path}
 use Rattle.tree_grow.specs.Path.{pageAt, pagesAbove}
-use Rattle.tree_grow.specs.Grow.{Grown, grown, linked, linkedBoth, topOver, placeIn, joinedTo, halved, enterOf, keptRoot, settled}
+use Rattle.tree_grow.specs.Grow.{linked, linkedBoth, topOver, placeIn, joinedTo, halved, enterOf, keptRoot, settled}
 use Rattle.tree_grow.specs.Steps.Grow.{divideOf}
 use Rattle.tree_grow.specs.Steps.Safe.{There, Free, HalvedSafe, EnterSafe, DivideSafe, PinSafe, AboveSafe}
 use Rattle.store.proofs.PutLaws.{part-none}

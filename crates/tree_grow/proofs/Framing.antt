@@ -13,12 +13,12 @@ use Rattle.store.specs.Pick.{pick}
 use Rattle.mvcc.specs.Lists.{mem}
 use Rattle.page.specs.Page.{page}
 use Rattle.page.specs.Header.{cellCount}
-use Rattle.page.specs.Pool.{nextPage}
+use Rattle.page.specs.Pool.{nextPage, Grown, grown}
 use Rattle.inner.specs.Inner.{childAt, childrenFrom}
 use Rattle.row.specs.Fault.{structural}
 use Rattle.inner_edit.specs.Edit.{leftHalf, middleKey}
 use Rattle.tree.specs.Climb.{climbOf, up}
-use Rattle.tree_grow.specs.Grow.{Grown, grown, linked, placeIn, topOver, joinedTo, halved, enterOf}
+use Rattle.tree_grow.specs.Grow.{linked, placeIn, topOver, joinedTo, halved, enterOf}
 use Rattle.tree_grow.specs.Steps.Safe.{Free, HalvedSafe, EnterSafe, PinSafe, Stands}
 use Rattle.tree_grow.specs.Plan.{fullPages, divisionOf, pagesAsked, firstMoved, relinksIn, keepsNumber, relinks, inUse, onLinks, planOf}
 use Rattle.tree_grow.specs.Steps.PlanFacts.{ClimbStands, Room, PlanIsSafe}

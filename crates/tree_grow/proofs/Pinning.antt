@@ -10,13 +10,13 @@ use borrow.Rule.Slice.PartMut.{midOf, putMid}
 use Rattle.store.specs.Part.{part, put, zeros}
 use Rattle.page.specs.Page.{page, setPage}
 use Rattle.page.specs.Header.{nodeType, cellCount, withNodeType, withIsRoot, withParent}
-use Rattle.page.specs.Pool.{nextPage, allocated, withFresh}
+use Rattle.page.specs.Pool.{nextPage, allocated, withFresh, Grown, grown}
 use Rattle.page.specs.declared.pool.State.{State}
 use Rattle.page.specs.declared.pool.Allocated.{Allocated}
 use Rattle.inner.specs.Inner.{keyAt, childAt}
 use Rattle.inner_edit.specs.Edit.{topPage, adopted}
 use Rattle.inner_edit.specs.Steps.Edit.{AdoptSafe}
-use Rattle.tree_grow.specs.Grow.{Grown, grown, linkedBoth, movedTo, relinked, topIn, pinOf, keptRoot}
+use Rattle.tree_grow.specs.Grow.{linkedBoth, movedTo, relinked, topIn, pinOf, keptRoot}
 use Rattle.tree_grow.specs.Steps.Safe.{There, RelinkSafe, PinSafe}
 use Rattle.store.proofs.PutLaws.{put-splice}
 use Rattle.store.proofs.SeamLaws.{put-zeros}

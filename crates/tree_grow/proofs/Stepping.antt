@@ -10,11 +10,11 @@ use Rattle.store.specs.Part.{zeros}
 use Rattle.page.specs.Page.{page, setPage}
 use Rattle.page.specs.Header.{nodeType, cellCount, withIsRoot, withParent, withCount}
 use Rattle.page.specs.Key.{flip}
-use Rattle.page.specs.Pool.{nextPage, allocated, withFresh}
+use Rattle.page.specs.Pool.{nextPage, allocated, withFresh, Grown}
 use Rattle.page.specs.declared.pool.State.{State}
 use Rattle.inner.specs.Inner.{childAt}
 use Rattle.inner_edit.specs.Edit.{leftHalf, rightHalf, topPage}
-use Rattle.tree_grow.specs.Grow.{Grown, topOver, halved, movedTo}
+use Rattle.tree_grow.specs.Grow.{topOver, halved, movedTo}
 use Rattle.tree_grow.specs.Steps.Safe.{There, Free, HalvedSafe, RelinkSafe, PinSafe}
 use Rattle.tree_grow.specs.Plan.{firstMoved}
 use Rattle.store.proofs.LeLaws.{length-putAt, leAt-putAt}

@@ -8,20 +8,12 @@ use Rattle.store.specs.Pick.{pick}
 use Rattle.store.specs.Part.{part, pad}
 use Rattle.page.specs.Page.{page, setPage}
 use Rattle.page.specs.Header.{nodeType, cellCount, withNodeType, withIsRoot, withParent, headerSize, nodeInternal}
-use Rattle.page.specs.Pool.{nextPage, allocated, withFresh}
+use Rattle.page.specs.Pool.{nextPage, allocated, withFresh, Grown, grown}
 use Rattle.page.specs.Key.{rankAt}
 use Rattle.page.specs.declared.pool.State.{State}
 use Rattle.inner.specs.Inner.{keyAt, childAt, childrenOf, maxKeys}
 use Rattle.inner.specs.Route.{childPlace}
 use Rattle.inner_edit.specs.Edit.{withEntry, leftHalf, middleKey, rightHalf, topPage, adopted}
-
--- the pool and the tree's numbers, which change together
-pub record Grown : Type 0 where
-  pub pool : List ℕ
-  pub state : State
-
-abbrev pub grown : List ℕ → State → Grown
-grown s st = record { pool = s; state = st }
 
 -- page c gets the parent q; two pages do, the first one first
 abbrev pub linked : (c q : ℕ) → List ℕ → List ℕ

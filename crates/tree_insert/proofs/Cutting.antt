@@ -14,7 +14,7 @@ use Rattle.page.specs.Page.{page}
 use Rattle.page.specs.Header.{cellCount}
 use Rattle.row.specs.declared.Cell.{Cell}
 use Rattle.leaf.specs.Cells.{cellsOf, cells}
-use Rattle.leaf.specs.Place.{largerSide, cutOf, sizesOf, cutLeaf, cutFits}
+use Rattle.leaf.specs.Place.{cutOf, sizesOf, cutLeaf, cutFits}
 use Rattle.leaf.specs.CutFacts.{sum, Between, BestCut}
 use Rattle.leaf.specs.declared.place.Cut.{Cut}
 use Rattle.tree_insert.specs.Insert.{bytesWith, cutWith}

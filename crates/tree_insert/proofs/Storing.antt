@@ -13,7 +13,7 @@ use Rattle.store.specs.Le.{AreBytes}
 use Rattle.store.specs.Part.{part, zeros}
 use Rattle.page.specs.Page.{page}
 use Rattle.page.specs.Header.{cellCount}
-use Rattle.page.specs.Pool.{goodPool, allocated, withFresh}
+use Rattle.page.specs.Pool.{goodPool, allocated, withFresh, grown}
 use Rattle.page.specs.Key.{rankAt}
 use Rattle.page.specs.declared.pool.State.{State}
 use Rattle.page.specs.declared.pool.Allocated.{Allocated}
@@ -23,7 +23,7 @@ use Rattle.row.specs.declared.Pointer.{Pointer}
 use Rattle.leaf_edit.specs.Edit.{withCell}
 use Rattle.leaf_divide.specs.Divide.{divided}
 use Rattle.tree_grow.specs.Path.{pageAt, pagesAbove}
-use Rattle.tree_grow.specs.Grow.{grown, settled}
+use Rattle.tree_grow.specs.Grow.{settled}
 use Rattle.tree_grow.specs.Steps.Safe.{There, AboveSafe}
 use Rattle.tree_room.specs.Room.{planned, leafPlan, roomOf}
 use Rattle.tree_room.specs.Up.{dividedUp}

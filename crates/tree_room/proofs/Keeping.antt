@@ -12,7 +12,7 @@ use Rattle.store.specs.Pick.{pick}
 use Rattle.store.specs.Part.{part, pad}
 use Rattle.page.specs.Page.{page, setPage}
 use Rattle.page.specs.Header.{nodeType, cellCount, nextLeaf, withNodeType, withCount}
-use Rattle.page.specs.Pool.{goodPool, nextPage, allocated, withFresh}
+use Rattle.page.specs.Pool.{goodPool, nextPage, allocated, withFresh, Grown, grown}
 use Rattle.page.specs.Key.{rankAt}
 use Rattle.page.specs.declared.pool.State.{State}
 use Rattle.page.specs.declared.pool.Allocated.{Allocated}
@@ -24,7 +24,7 @@ use Rattle.tree.specs.declared.climb.Path.{Path}
 use Rattle.tree.specs.declared.climb.Climbed.{Climbed}
 use Rattle.leaf_divide.specs.Divide.{leftLeaf, rightLeaf, divided}
 use Rattle.tree_grow.specs.Path.{pageAt, pagesAbove}
-use Rattle.tree_grow.specs.Grow.{Grown, grown, settled}
+use Rattle.tree_grow.specs.Grow.{settled}
 use Rattle.tree_grow.specs.Steps.Safe.{There, AboveSafe}
 use Rattle.tree_grow.specs.Plan.{fullPages, divisionOf, pagesAsked, relinks, inUse, onLinks, planOf}
 use Rattle.tree_grow.specs.Steps.PlanFacts.{LeafDivided}

@@ -14,7 +14,7 @@ use Rattle.row.specs.declared.Cell.{Cell}
 use Rattle.leaf.specs.Place.{cutLeaf}
 use Rattle.leaf.specs.declared.place.Cut.{Cut}
 use Rattle.leaf_edit.specs.Edit.{withStamp}
-use Rattle.tree_grow.specs.Grow.{Grown, grown}
+use Rattle.page.specs.Pool.{Grown, grown}
 use Rattle.tree_room.specs.Room.{leafPlan}
 use Rattle.tree_room.specs.Up.{dividedUp}
 use Rattle.tree_room.specs.declared.Planned.{Planned}

@@ -8,7 +8,7 @@ use Rattle.page.specs.Page.{page}
 use Rattle.page.specs.Header.{nodeType}
 use Rattle.page.specs.declared.pool.State.{State}
 use Rattle.tree.specs.Climb.{up, climbOf}
-use Rattle.tree_grow.specs.Grow.{Grown}
+use Rattle.page.specs.Pool.{Grown}
 use Rattle.tree_grow.specs.Steps.Safe.{Stands, AboveSafe}
 use Rattle.tree_grow.specs.Plan.{divisionOf, pagesAsked, planOf}
 use Rattle.tree_grow.specs.declared.plan.Plan.{Plan}

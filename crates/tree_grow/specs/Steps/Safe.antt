@@ -8,11 +8,11 @@ use lib.ListN.{length}
 use Rattle.mvcc.specs.Lists.{mem}
 use Rattle.page.specs.Page.{page, setPage}
 use Rattle.page.specs.Header.{nodeType, cellCount}
-use Rattle.page.specs.Pool.{nextPage, withFresh}
+use Rattle.page.specs.Pool.{nextPage, withFresh, Grown, grown}
 use Rattle.inner.specs.Inner.{childAt, maxKeys}
 use Rattle.inner_edit.specs.Edit.{leftHalf, middleKey, rightHalf}
 use Rattle.inner_edit.specs.Steps.Edit.{AdoptSafe}
-use Rattle.tree_grow.specs.Grow.{Grown, grown, linked, placeIn, halved, enterOf, movedTo}
+use Rattle.tree_grow.specs.Grow.{linked, placeIn, halved, enterOf, movedTo}
 
 -- page p is there
 abbrev pub There : (p : ℕ) → List ℕ → Type 0

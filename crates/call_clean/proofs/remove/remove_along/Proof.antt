@@ -3,9 +3,9 @@
 use mathlib.Core.Path.{_≡_, refl, sym, _∙_}
 use lib.ListN.{length}
 use Rattle.store.specs.Le.{AreBytes}
+use Rattle.call_clean.specs.Remove.{removedAlong}
 use Rattle.page.proofs.PageLaws.{lent-page}
 use Rattle.leaf.proofs.Running.{run-bad}
-use Rattle.call_clean.specs.Remove.{removedAlong}
 use Rattle.call_clean.proofs.Counting.{run-there, run-fits}
 use Rattle.call_clean.proofs.Storing.{run-made, remove-none, remove-unused, remove-bad, remove-last, remove-end, remove-on}
 use borrow.Author.Needs.{needs}
