@@ -77,6 +77,6 @@ module _ {r x : Judged} (n : ℕ) (said : r ≡ x) where
 
 -- ---- vacuum
 
-pub dropped-few : (st : ℕ → ℕ) (bound : ℕ) (pg : List ℕ) {w : Vacuumed} → length pg ≡ 4096 → w ≡ vacuumedLeaf st bound pg .told → w .dropped ≤ 65535
+pub dropped-few : (st : ℕ → ℕ) (bound : ℕ) (pg : List ℕ) {w : Vacuumed} → length pg ≡ 4096 → w ≡ vacuumedLeaf pg st bound .told → w .dropped ≤ 65535
 unfolding vacuumedLeaf
 dropped-few st bound pg len told = rw told (omega (arith, kept-count st bound (rows pg), length-map (cells pg) (rowOf pg), cells-few pg len))

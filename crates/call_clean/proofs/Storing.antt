@@ -43,16 +43,16 @@ module _ (run : Run) (e : ℕ) (pg : List ℕ) where
   run-some z q u = u ∙ rw (ne-eqb (run .count) 0 z, q)
 
 -- it is the leaf with the rows of the other keys
-run-removed : (p key : ℕ) (pg : List ℕ) → AreBytes pg → length pg ≡ 4096 → {run : Run} {e : ℕ} {larger : Bool} → RunIs pg p key run e larger → withoutRun run e pg ≡ removedLeaf key pg
+run-removed : (p key : ℕ) (pg : List ℕ) → AreBytes pg → length pg ≡ 4096 → {run : Run} {e : ℕ} {larger : Bool} → RunIs pg p key run e larger → withoutRun run e pg ≡ removedLeaf pg key
 unfolding removedLeaf
 run-removed p key pg B len {run} {e} {larger} r =
     let sound : Sound pg e = record { bytes = B; whole = len; judged = any-page p 0 e pg (r .judged) } in
     rw (run-out pg p key e run larger sound r, run-count r)
 
 -- what the pool is when its page p has come back without them
-pub run-made : (p key : ℕ) (s : List ℕ) → AreBytes s → p * 4096 + 4096 ≤ length s → {run : Run} {e : ℕ} {larger : Bool} → RunIs (page p s) p key run e larger
-    → {y : List ℕ} → y ≡ withoutRun run e (page p s) → putMid (p * 4096) (p * 4096 + 4096 - p * 4096) s y ≡ setPage p (removedLeaf key (page p s)) s
-run-made p key s B h r q = page-made p s (q ∙ run-removed p key (page p s) (bytes-page p s B) (length-page p s h) r)
+pub run-made : (p key : ℕ) (s : List ℕ) → AreBytes s → p * 4096 + 4096 ≤ length s → {run : Run} {e : ℕ} {larger : Bool} → RunIs (page s p) p key run e larger
+    → {y : List ℕ} → y ≡ withoutRun run e (page s p) → putMid (p * 4096) (p * 4096 + 4096 - p * 4096) s y ≡ setPage p (removedLeaf (page s p) key) s
+run-made p key s B h r q = page-made p s (q ∙ run-removed p key (page s p) (bytes-page p s B) (length-page p s h) r)
 
 -- ---- remove
 
@@ -68,30 +68,30 @@ module _ (used key p : ℕ) (s : List ℕ) where
   remove-unused (suc m) h = rw (le-ltb p used h)
 
   module _ (h : p < used) where
-    pub remove-bad : (m : ℕ) {f : Fault} → judgeLeaf p (page p s) ≡ Judged.Bad f → s ≡ removedAlong s used p key m
+    pub remove-bad : (m : ℕ) {f : Fault} → judgeLeaf (page s p) p ≡ Judged.Bad f → s ≡ removedAlong s used p key m
     unfolding removedAlong
     remove-bad zero e = refl
     remove-bad (suc m) e = rw (lt-ltb p used h, e)
 
-    module _ {e : ℕ} (judged : judgeLeaf p (page p s) ≡ Judged.Ok e) {t : List ℕ} (made : t ≡ setPage p (removedLeaf key (page p s)) s)
-        {larger : Bool} (last : hasLarger key (cells (page p s)) ≡ larger) where
+    module _ {e : ℕ} (judged : judgeLeaf (page s p) p ≡ Judged.Ok e) {t : List ℕ} (made : t ≡ setPage p (removedLeaf (page s p) key) s)
+        {larger : Bool} (last : hasLarger key (cells (page s p)) ≡ larger) where
       pub remove-last : (m : ℕ) → 0 < m → larger ≡ true → t ≡ removedAlong s used p key m
       unfolding removedAlong
       remove-last zero z l = absurd (omega arith)
       remove-last (suc m) z l = made ∙ rw (lt-ltb p used h, judged, last ∙ l)
 
-      module _ {n : ℕ} (next : n ≡ nextLeaf (page p s)) where
+      module _ {n : ℕ} (next : n ≡ nextLeaf (page s p)) where
         pub remove-end : (m : ℕ) → 0 < m → larger ≡ false → n ≡ 0 → t ≡ removedAlong s used p key m
         unfolding removedAlong
         remove-end zero z l q = absurd (omega arith)
-        remove-end (suc m) z l q = made ∙ rw (lt-ltb p used h, judged, last ∙ l, eq-eqb (nextLeaf (page p s)) 0 (sym next ∙ q))
+        remove-end (suc m) z l q = made ∙ rw (lt-ltb p used h, judged, last ∙ l, eq-eqb (nextLeaf (page s p)) 0 (sym next ∙ q))
 
         pub remove-on : (m : ℕ) → 0 < m → larger ≡ false → (n ≡ 0 → ⊥) → removedAlong t used n key (m - 1) ≡ removedAlong s used p key m
         unfolding removedAlong
         remove-on zero z l q = absurd (omega arith)
         remove-on (suc m) z l q =
             let k : suc m - 1 ≡ m = omega arith in
-            rw (lt-ltb p used h, judged, last ∙ l, ne-eqb (nextLeaf (page p s)) 0 (λ u. q (next ∙ u)), k, next, made)
+            rw (lt-ltb p used h, judged, last ∙ l, ne-eqb (nextLeaf (page s p)) 0 (λ u. q (next ∙ u)), k, next, made)
 
 -- ---- vacuum
 
@@ -106,22 +106,22 @@ module _ (st : ℕ → ℕ) (bound used d p : ℕ) (s : List ℕ) where
   vacuum-unused zero h = refl
   vacuum-unused (suc m) h = rw (le-ltb p used h)
 
-  module _ (h : p < used) {r : Judged} (said : r ≡ judgeLeaf p (page p s)) where
+  module _ (h : p < used) {r : Judged} (said : r ≡ judgeLeaf (page s p) p) where
     pub vacuum-bad : (m : ℕ) {f : Fault} → r ≡ Judged.Bad f → ended d s ≡ vacuumedAlong s used p st bound m d
     unfolding vacuumedAlong
     vacuum-bad zero e = refl
     vacuum-bad (suc m) e = rw (lt-ltb p used h, sym said ∙ e)
 
-    module _ {e : ℕ} (good : r ≡ Judged.Ok e) {w : Vacuumed} (told : w ≡ vacuumedLeaf st bound (page p s) .told) {t : List ℕ}
-        (made : t ≡ setPage p (vacuumedLeaf st bound (page p s) .page) s) {n : ℕ} (next : n ≡ nextLeaf (page p s)) where
+    module _ {e : ℕ} (good : r ≡ Judged.Ok e) {w : Vacuumed} (told : w ≡ vacuumedLeaf (page s p) st bound .told) {t : List ℕ}
+        (made : t ≡ setPage p (vacuumedLeaf (page s p) st bound .page) s) {n : ℕ} (next : n ≡ nextLeaf (page s p)) where
       pub vacuum-end : (m : ℕ) → 0 < m → n ≡ 0 → ended (d + w .dropped) t ≡ vacuumedAlong s used p st bound m d
       unfolding vacuumedAlong
       vacuum-end zero z q = absurd (omega arith)
-      vacuum-end (suc m) z q = rw (told, made, lt-ltb p used h, sym said ∙ good, eq-eqb (nextLeaf (page p s)) 0 (sym next ∙ q))
+      vacuum-end (suc m) z q = rw (told, made, lt-ltb p used h, sym said ∙ good, eq-eqb (nextLeaf (page s p)) 0 (sym next ∙ q))
 
       pub vacuum-on : (m : ℕ) → 0 < m → (n ≡ 0 → ⊥) → vacuumedAlong t used n st bound (m - 1) (d + w .dropped) ≡ vacuumedAlong s used p st bound m d
       unfolding vacuumedAlong
       vacuum-on zero z q = absurd (omega arith)
       vacuum-on (suc m) z q =
           let k : suc m - 1 ≡ m = omega arith in
-          rw (told, made, lt-ltb p used h, sym said ∙ good, ne-eqb (nextLeaf (page p s)) 0 (λ u. q (next ∙ u)), k, next)
+          rw (told, made, lt-ltb p used h, sym said ∙ good, ne-eqb (nextLeaf (page s p)) 0 (λ u. q (next ∙ u)), k, next)

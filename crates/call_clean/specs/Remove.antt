@@ -25,18 +25,18 @@ use Rattle.call_answers.specs.Names.{BadPool, unless}
 -- ---- one leaf
 
 -- the versions of the key that it holds
-abbrev pub heldRows : (key : ℕ) → List ℕ → List Row
-heldRows key pg = only (ofKey key) (rows pg)
+abbrev pub heldRows : List ℕ → (key : ℕ) → List Row
+heldRows pg key = only (ofKey key) (rows pg)
 
 -- the leaf without them; one that holds none is not written
-unfoldable pub removedLeaf : (key : ℕ) → List ℕ → List ℕ
-removedLeaf key pg = pick (eqb (length (heldRows key pg)) 0) pg (writeRows (only (λ r. not (ofKey key r)) (rows pg)) pg)
+unfoldable pub removedLeaf : List ℕ → (key : ℕ) → List ℕ
+removedLeaf pg key = pick (eqb (length (heldRows pg key)) 0) pg (writeRows (only (λ r. not (ofKey key r)) (rows pg)) pg)
 
 -- ---- the walk: how many versions of the key it meets
 
 abbrev pub lookHeld : (key : ℕ) → ℕ → ℕ → List ℕ → Seen ℕ
 lookHeld key n p pg =
-    onJudged (λ e. pick (hasLarger key (cells pg)) (stop (n + length (heldRows key pg))) (go (n + length (heldRows key pg)))) (λ f. broken f) (judgeLeaf p pg)
+    onJudged (λ e. pick (hasLarger key (cells pg)) (stop (n + length (heldRows pg key))) (go (n + length (heldRows pg key)))) (λ f. broken f) (judgeLeaf pg p)
 
 abbrev pub toldCount : Told ℕ → ChainCount
 toldCount (ok n) = ChainCount.Ok n
@@ -53,13 +53,13 @@ removedAlong s used p key zero = s
 removedAlong s used p key (suc m) =
     pick (ltb p used)
     (onJudged
-    (λ e. pick (hasLarger key (cells (page p s))) clean (pick (eqb (nextLeaf (page p s)) 0) clean (removedAlong clean used (nextLeaf (page p s)) key m)))
+    (λ e. pick (hasLarger key (cells (page s p))) clean (pick (eqb (nextLeaf (page s p)) 0) clean (removedAlong clean used (nextLeaf (page s p)) key m)))
     (λ f. s)
-    (judgeLeaf p (page p s)))
+    (judgeLeaf (page s p) p))
     s
   where
     clean : List ℕ
-    clean = setPage p (removedLeaf key (page p s)) s
+    clean = setPage p (removedLeaf (page s p) key) s
 
 -- ---- the call
 

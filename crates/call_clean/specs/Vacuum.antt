@@ -25,7 +25,7 @@ use Rattle.call_answers.specs.Names.{BadPool, BadStatuses, unless}
 -- ---- the walk: each leaf judged, to the chain's end; it gathers nothing
 
 abbrev pub lookLeaf : ℕ → ℕ → List ℕ → Seen ℕ
-lookLeaf n p pg = onJudged (λ e. go n) broken (judgeLeaf p pg)
+lookLeaf n p pg = onJudged (λ e. go n) broken (judgeLeaf pg p)
 
 abbrev pub toldJudged : Told ℕ → ChainJudged
 toldJudged (ok n) = ChainJudged.Ok
@@ -41,12 +41,12 @@ unfoldable pub vacuumedAlong : List ℕ → (used p : ℕ) → (ℕ → ℕ) →
 vacuumedAlong s used p st bound zero n = ended n s
 vacuumedAlong s used p st bound (suc m) n =
     pick (ltb p used)
-    (onJudged (λ e. after (vacuumedLeaf st bound (page p s)) (λ d t. vacuumedAlong t used (nextLeaf (page p s)) st bound m d)) (λ f. ended n s) (judgeLeaf p (page p s)))
+    (onJudged (λ e. after (vacuumedLeaf (page s p) st bound) (λ d t. vacuumedAlong t used (nextLeaf (page s p)) st bound m d)) (λ f. ended n s) (judgeLeaf (page s p) p))
     (ended n s)
   where
     after : Swept → (ℕ → List ℕ → Ended ℕ) → Ended ℕ
     after w on =
-        pick (eqb (nextLeaf (page p s)) 0) (ended (n + w .told .dropped) (setPage p (w .page) s)) (on (n + w .told .dropped) (setPage p (w .page) s))
+        pick (eqb (nextLeaf (page s p)) 0) (ended (n + w .told .dropped) (setPage p (w .page) s)) (on (n + w .told .dropped) (setPage p (w .page) s))
 
 -- ---- the call
 

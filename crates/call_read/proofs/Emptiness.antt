@@ -83,7 +83,7 @@ module _ {pg : List ℕ} (e : Empty pg) where
   empty-rows : rows pg ≡ []
   empty-rows = ap (map (rowOf pg)) empty-cells
 
-  pub empty-judged : (p : ℕ) → judgeLeaf p pg ≡ Judged.Ok 12
+  pub empty-judged : (p : ℕ) → judgeLeaf pg p ≡ Judged.Ok 12
   unfolding judgeLeaf judgeCells
   empty-judged p = rw (e .leaf, e .count)
 
@@ -97,20 +97,20 @@ none-fitted out = rw (le-leb 0 (length out) (omega arith), put-nil 0 out)
 -- a root in use that is such a page
 pub record Alone (used root : ℕ) (s : List ℕ) : Type 0 where
   pub in-use : root < used
-  pub empty : Empty (page root s)
+  pub empty : Empty (page s root)
 
 module _ {used root : ℕ} {s : List ℕ} (t : Alone used root s) where
   pub comes-to : (route : Route) → descendOf s used root route 3 ≡ Descent.Leaf root
   comes-to route = sym (way-leaf route used root s (t .in-use) refl refl 3 (t .empty .leaf))
 
   -- a walk ends where it starts, with what it started with
-  stays : {A : Type 0} (look : A → ℕ → List ℕ → Seen A) (a : A) → look a root (page root s) ≡ go a → along s used root look used a ≡ ok a
+  stays : {A : Type 0} (look : A → ℕ → List ℕ → Seen A) (a : A) → look a root (page s root) ≡ go a → along s used root look used a ≡ ok a
   stays look a e = sym (along-end look used a root s (t .in-use) refl used (omega (arith, t .in-use)) e refl (t .empty .next))
 
   is-well : isWellFormed s used root ≡ true
   unfolding isWellFormed checkOf soundLeaf cellsWithin foldCells
   is-well =
-      let first : isFirst (checkOf 0 used s 0 root 0 4294967295 0) ≡ true =
+      let first : isFirst (checkOf s used 0 0 root 0 4294967295 0) ≡ true =
       rw (lt-ltb root used (t .in-use), t .empty .parent, empty-judged (t .empty) root, empty-cells (t .empty), t .empty .next) in
       rw (sym (check-is-well 0 used root s) ∙ first)
 
@@ -118,27 +118,27 @@ module _ {used root : ℕ} {s : List ℕ} (t : Alone used root s) where
     best-none : (key : ℕ) → bestInTree s used root key sn st ≡ ChainBest.Ok Best.Nothing
     unfolding bestInTree bestAlong findLeaf foldCells hasLarger
     best-none key =
-        let here : lookBest key sn st Best.Nothing root (page root s) ≡ go Best.Nothing = rw (empty-judged (t .empty) root, empty-cells (t .empty)) in
+        let here : lookBest key sn st Best.Nothing root (page s root) ≡ go Best.Nothing = rw (empty-judged (t .empty) root, empty-cells (t .empty)) in
         rw (comes-to (Route.Search key), stays (lookBest key sn st) Best.Nothing here)
 
     test-none : (claiming : Bool) (seen key : ℕ) → testInTree s used root key sn st claiming seen ≡ ChainTest.Ok false
     unfolding testInTree testAlong testLeaf foldCells hasLarger
     test-none claiming seen key =
-        let here : lookTest key sn st claiming seen false root (page root s) ≡ go false = rw (empty-judged (t .empty) root, empty-cells (t .empty)) in
+        let here : lookTest key sn st claiming seen false root (page s root) ≡ go false = rw (empty-judged (t .empty) root, empty-cells (t .empty)) in
         rw (comes-to (Route.Search key), stays (lookTest key sn st claiming seen) false here)
 
   list-none : (w : Which) (out : List ℕ) → listTree s used root w out ≡ written (Listing.Done 0) out
   unfolding listTree rowsAlong foldCells hasLarger
   list-none w out = rw (comes-to (routeOf w), stays (lookRows w) [] (here w)) (none-fitted out)
     where
-      here : (w : Which) → lookRows w [] root (page root s) ≡ go []
+      here : (w : Which) → lookRows w [] root (page s root) ≡ go []
       here Which.All = rw (empty-judged (t .empty) root, empty-rows (t .empty))
       here (Which.Key key) = rw (empty-judged (t .empty) root, empty-cells (t .empty))
 
   scan-none : (sn : Snapshot) (st : ℕ → ℕ) (out : List ℕ) → scanTree s used root sn st out ≡ written (Listing.Done 0) out
   unfolding scanTree chainRows scanRows visibleRows newestEach
   scan-none sn st out =
-      let here : lookAll [] root (page root s) ≡ go [] = rw (empty-judged (t .empty) root, empty-rows (t .empty)) in
+      let here : lookAll [] root (page s root) ≡ go [] = rw (empty-judged (t .empty) root, empty-rows (t .empty)) in
       rw (comes-to Route.First, stays lookAll [] here) (none-fitted out)
 
 -- ---- the calls
@@ -197,7 +197,7 @@ module _ (s : List ℕ) (st : State) (left : hasPage s st ≡ true) where
   unfolding withFresh
   fresh-length = length-setPage (nextPage s st) (zeros 4096) s room (length-replicate {A = ℕ} 4096 0)
 
-  pub fresh-page : page (nextPage s st) (withFresh s st) ≡ zeros 4096
+  pub fresh-page : page (withFresh s st) (nextPage s st) ≡ zeros 4096
   unfolding withFresh
   fresh-page = page-setPage (nextPage s st) (zeros 4096) s room (length-replicate {A = ℕ} 4096 0)
 
@@ -205,7 +205,7 @@ module _ (s : List ℕ) (st : State) (left : hasPage s st ≡ true) where
   unfolding createdPool
   created-is = rw fresh-page
 
-  pub created-page : page (nextPage s st) (createdPool s st) ≡ new-root
+  pub created-page : page (createdPool s st) (nextPage s st) ≡ new-root
   created-page = rw created-is (page-setPage (nextPage s st) new-root (withFresh s st) (rw fresh-length room) new-length)
 
   pub created-length : length (createdPool s st) ≡ length s

@@ -33,7 +33,7 @@ module _ (claiming : Bool) (s : List ℕ) (st : State) (key : ℕ) (sn : Snapsho
   unfolding markReady
   ready-lost h e = e ∙ rw (← is, h)
 
-  module _ {p : ℕ} {c : Cell} (at : looked ≡ Looked.At p c) {t : Target} (target : t ≡ targetOf p c (page p s)) where
+  module _ {p : ℕ} {c : Cell} (at : looked ≡ Looked.At p c) {t : Target} (target : t ≡ targetOf (page s p) p c) where
     pub ready-asked : {y : ChainTest} → claiming ≡ true
         → y ≡ testInTree s (st .used) (st .root) key sn (lookup ss) true (c .version .creator) → m ≡ markingAt s st y t
         → m ≡ markReady s st key sn ss claiming

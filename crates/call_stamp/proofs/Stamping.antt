@@ -71,8 +71,8 @@ module _ (s : List ℕ) (st : State) (key : ℕ) (sn : Snapshot) (ss : Statuses)
       by-pool false b d e f g u = absurd (let z : _≡_ {A = ℕ} 0 1 = cc in omega arith)
 
 -- the target that is made of it
-pub target-met : (used : ℕ) (s : List ℕ) (p : ℕ) (c : Cell) {t : Target} → t ≡ targetOf p c (page p s) → CellMet used p c s
-    → CellMet used (t .leaf) (t .cell) s × (t ≡ targetOf (t .leaf) (t .cell) (page (t .leaf) s))
+pub target-met : (used : ℕ) (s : List ℕ) (p : ℕ) (c : Cell) {t : Target} → t ≡ targetOf (page s p) p c → CellMet used p c s
+    → CellMet used (t .leaf) (t .cell) s × (t ≡ targetOf (page s (t .leaf)) (t .leaf) (t .cell))
 target-met used s p c e m = rw e (m, refl)
 
 -- ---- what a judgement that is ok says
@@ -82,7 +82,7 @@ unfolding stampPlan
 ok-planned st t s = plan-told st (t .leaf) _ _ s
 
 module _ (s : List ℕ) (st : State) (t : Target) (good : goodPool s st ≡ true) (met : CellMet (st .used) (t .leaf) (t .cell) s)
-    (is : t ≡ targetOf (t .leaf) (t .cell) (page (t .leaf) s)) where
+    (is : t ≡ targetOf (page s (t .leaf)) (t .leaf) (t .cell)) where
   at-ok : (test : ChainTest) → markingAt s st test t .ok ≡ true → Stampable s st (markingAt s st test t)
   unfolding markingAt
   at-ok test h = by-ok (stampPlan s st t .ok) (stampPlan s st t .plan) (roomOf (length s / 4096) st (bytesStamped t) (stampPlan s st t .plan)) refl refl (λ q. ok-planned st t s q) test h
@@ -113,15 +113,15 @@ module _ (s : List ℕ) (st : State) (key : ℕ) (sn : Snapshot) (ss : Statuses)
   mark-at claiming h = by-looked (findVisibleRun s st key sn ss) refl h
     where
       by-looked : (y : Looked) → findVisibleRun s st key sn ss ≡ y
-          → onLooked (λ p c. markingAt s st (conflictTold s st key sn ss claiming (c .version .creator)) (targetOf p c (page p s)))
+          → onLooked (λ p c. markingAt s st (conflictTold s st key sn ss claiming (c .version .creator)) (targetOf (page s p) p c))
           (λ r. notMarking (r .number) (r .fault)) y .ok
           ≡ true
           → Stampable s st
-          (onLooked (λ p c. markingAt s st (conflictTold s st key sn ss claiming (c .version .creator)) (targetOf p c (page p s)))
+          (onLooked (λ p c. markingAt s st (conflictTold s st key sn ss claiming (c .version .creator)) (targetOf (page s p) p c))
           (λ r. notMarking (r .number) (r .fault)) y)
       by-looked (Looked.At p c) e u =
           let f = looked-finds s st key sn ss {looked = Looked.At p c} (sym e) refl in
-          at-ok s st (targetOf p c (page p s)) (f .good) (f .met) refl (conflictTold s st key sn ss claiming (c .version .creator)) u
+          at-ok s st (targetOf (page s p) p c) (f .good) (f .met) refl (conflictTold s st key sn ss claiming (c .version .creator)) u
       by-looked (Looked.Refused r) e u = absurd (let z : _≡_ {A = ℕ} 0 1 = cc in omega arith)
 
   pub mark-ok : (claiming : Bool) {told : Marking} → told ≡ markReady s st key sn ss claiming → told .ok ≡ true → Stampable s st told

@@ -35,7 +35,7 @@ conflictTold s st key sn ss claiming seen =
 -- 1, 3, 4, 2, 8, 7, 11, 10: "A stamp or claim that finds nothing does not climb"
 unfoldable pub markReady : List ℕ → State → (key : ℕ) → Snapshot → Statuses → (claiming : Bool) → Marking
 markReady s st key sn ss claiming =
-    onLooked (λ p c. markingAt s st (conflictTold s st key sn ss claiming (c .version .creator)) (targetOf p c (page p s))) (λ r. notMarking (r .number) (r .fault))
+    onLooked (λ p c. markingAt s st (conflictTold s st key sn ss claiming (c .version .creator)) (targetOf (page s p) p c)) (λ r. notMarking (r .number) (r .fault))
     (findVisibleRun s st key sn ss)
 
 -- stored with the stamp of d

@@ -19,12 +19,12 @@ use Rattle.store.proofs.Tests.{and-both}
 
 -- a turn of the loop that judges them, with its flag
 pub falls-turn : (ok : Bool) (last k i n m : ℕ) (pg : List ℕ) → n ≡ suc m → k ≡ keyAt pg i
-    → (ok && neverFalls last (keysFrom i n pg)) ≡ ((ok && leb last k) && neverFalls k (keysFrom (i + 1) m pg))
+    → (ok && neverFalls last (keysFrom pg i n)) ≡ ((ok && leb last k) && neverFalls k (keysFrom pg (i + 1) m))
 unfolding neverFalls keysFrom
 falls-turn true last k i n m pg e f = rw (e, f)
 falls-turn false last k i n m pg e f = refl
 
-pub falls-end : (ok : Bool) (last i n : ℕ) (pg : List ℕ) → n ≡ 0 → (ok && neverFalls last (keysFrom i n pg)) ≡ ok
+pub falls-end : (ok : Bool) (last i n : ℕ) (pg : List ℕ) → n ≡ 0 → (ok && neverFalls last (keysFrom pg i n)) ≡ ok
 unfolding neverFalls keysFrom
 falls-end true last i n pg e = rw e
 falls-end false last i n pg e = refl
@@ -32,24 +32,24 @@ falls-end false last i n pg e = refl
 -- ---- the judgement, one law for each way out
 
 module _ (p : ℕ) (pg : List ℕ) where
-  pub judge-kind : (nodeType pg ≡ 0 → ⊥) → InnerJudged.Bad (structural p) ≡ judgeInner p pg
+  pub judge-kind : (nodeType pg ≡ 0 → ⊥) → InnerJudged.Bad (structural p) ≡ judgeInner pg p
   unfolding judgeInner
   judge-kind h = rw (ne-eqb _ _ h)
 
-  pub judge-none : nodeType pg ≡ 0 → cellCount pg < 1 → InnerJudged.Bad (structural p) ≡ judgeInner p pg
+  pub judge-none : nodeType pg ≡ 0 → cellCount pg < 1 → InnerJudged.Bad (structural p) ≡ judgeInner pg p
   unfolding judgeInner
   judge-none h k = rw (eq-eqb _ _ h, lt-leb _ _ k)
 
-  pub judge-many : nodeType pg ≡ 0 → 1 ≤ cellCount pg → 510 < cellCount pg → InnerJudged.Bad (structural p) ≡ judgeInner p pg
+  pub judge-many : nodeType pg ≡ 0 → 1 ≤ cellCount pg → 510 < cellCount pg → InnerJudged.Bad (structural p) ≡ judgeInner pg p
   unfolding judgeInner
   judge-many h k l = rw (eq-eqb _ _ h, le-leb _ _ k, lt-leb _ _ l)
 
-  module _ {n : ℕ} {b : Bool} (kind : nodeType pg ≡ 0) (count : n ≡ cellCount pg) (some : 1 ≤ n) (few : n ≤ 510) (is : b ≡ neverFalls 0 (keysFrom 0 n pg)) where
-    pub judge-ok : b ≡ true → InnerJudged.Ok n ≡ judgeInner p pg
+  module _ {n : ℕ} {b : Bool} (kind : nodeType pg ≡ 0) (count : n ≡ cellCount pg) (some : 1 ≤ n) (few : n ≤ 510) (is : b ≡ neverFalls 0 (keysFrom pg 0 n)) where
+    pub judge-ok : b ≡ true → InnerJudged.Ok n ≡ judgeInner pg p
     unfolding judgeInner
     judge-ok e = rw (eq-eqb _ _ kind, ← count, le-leb _ _ some, le-leb _ _ few, ← is, e)
 
-    pub judge-falls : b ≡ false → InnerJudged.Bad (structural p) ≡ judgeInner p pg
+    pub judge-falls : b ≡ false → InnerJudged.Bad (structural p) ≡ judgeInner pg p
     unfolding judgeInner
     judge-falls e = rw (eq-eqb _ _ kind, ← count, le-leb _ _ some, le-leb _ _ few, ← is, e)
 
@@ -59,23 +59,23 @@ pick-le : (b : Bool) (x n : ℕ) → x ≤ n → pick b 0 (suc x) ≤ suc n
 pick-le true x n h = omega arith
 pick-le false x n h = omega arith
 
-pub first-in : (test : ℕ → Bool) (n i : ℕ) (pg : List ℕ) → firstWhere test (keysFrom i n pg) ≤ n
+pub first-in : (test : ℕ → Bool) (n i : ℕ) (pg : List ℕ) → firstWhere test (keysFrom pg i n) ≤ n
 unfolding firstWhere keysFrom
 first-in test zero i pg = omega arith
-first-in test (suc n) i pg = pick-le (test (keyAt pg i)) (firstWhere test (keysFrom (i + 1) n pg)) n (first-in test n (i + 1) pg)
+first-in test (suc n) i pg = pick-le (test (keyAt pg i)) (firstWhere test (keysFrom pg (i + 1) n)) n (first-in test n (i + 1) pg)
 
 -- a key that is at least the bound is not before the first such
-pub first-le : (bound n m i j : ℕ) (pg : List ℕ) → j ≡ i + m → m < n → bound ≤ keyAt pg j → firstWhere (leb bound) (keysFrom i n pg) ≤ m
+pub first-le : (bound n m i j : ℕ) (pg : List ℕ) → j ≡ i + m → m < n → bound ≤ keyAt pg j → firstWhere (leb bound) (keysFrom pg i n) ≤ m
 unfolding firstWhere keysFrom
 first-le bound zero m i j pg e h l = absurd (omega arith)
 first-le bound (suc n) zero i j pg e h l =
     let f : j ≡ i = omega arith in
     rw (le-leb bound (keyAt pg i) (rw f at l)) (omega arith)
 first-le bound (suc n) (suc m) i j pg e h l =
-    pick-le (leb bound (keyAt pg i)) (firstWhere (leb bound) (keysFrom (i + 1) n pg)) m (first-le bound n m (i + 1) j pg (omega arith) (omega arith) l)
+    pick-le (leb bound (keyAt pg i)) (firstWhere (leb bound) (keysFrom pg (i + 1) n)) m (first-le bound n m (i + 1) j pg (omega arith) (omega arith) l)
 
 -- keys that never fall are at least what they start from
-above : (x n m i j : ℕ) (pg : List ℕ) → j ≡ i + m → neverFalls x (keysFrom i n pg) ≡ true → m < n → x ≤ keyAt pg j
+above : (x n m i j : ℕ) (pg : List ℕ) → j ≡ i + m → neverFalls x (keysFrom pg i n) ≡ true → m < n → x ≤ keyAt pg j
 unfolding neverFalls keysFrom
 above x zero m i j pg e h l = absurd (omega arith)
 above x (suc n) zero i j pg e h l =
@@ -87,8 +87,8 @@ above x (suc n) (suc m) i j pg e h l =
     omega (arith, above (keyAt pg i) n m (i + 1) j pg (omega arith) (s .1) (omega arith))
 
 -- a key below the bound is before the first that is not, if they never fall
-pub first-gt : (bound n m i j x : ℕ) (pg : List ℕ) → j ≡ i + m → neverFalls x (keysFrom i n pg) ≡ true → m < n → keyAt pg j < bound
-    → m < firstWhere (leb bound) (keysFrom i n pg)
+pub first-gt : (bound n m i j x : ℕ) (pg : List ℕ) → j ≡ i + m → neverFalls x (keysFrom pg i n) ≡ true → m < n → keyAt pg j < bound
+    → m < firstWhere (leb bound) (keysFrom pg i n)
 unfolding firstWhere neverFalls keysFrom
 first-gt bound zero m i j x pg e h l k = absurd (omega arith)
 first-gt bound (suc n) zero i j x pg e h l k =
@@ -103,14 +103,14 @@ first-gt bound (suc n) (suc m) i j x pg e h l k =
 
 module _ (child i n m : ℕ) (pg : List ℕ) where
   pub place-turn : n ≡ suc m → (childAt pg i ≡ child → ⊥)
-      → i + firstWhere (λ c. eqb c child) (childrenFrom i n pg) ≡ i + 1 + firstWhere (λ c. eqb c child) (childrenFrom (i + 1) m pg)
+      → i + firstWhere (λ c. eqb c child) (childrenFrom pg i n) ≡ i + 1 + firstWhere (λ c. eqb c child) (childrenFrom pg (i + 1) m)
   unfolding firstWhere childrenFrom
   place-turn e h = rw (e, ne-eqb _ _ h) (omega arith)
 
-  pub place-found : n ≡ suc m → childAt pg i ≡ child → i + firstWhere (λ c. eqb c child) (childrenFrom i n pg) ≡ i
+  pub place-found : n ≡ suc m → childAt pg i ≡ child → i + firstWhere (λ c. eqb c child) (childrenFrom pg i n) ≡ i
   unfolding firstWhere childrenFrom
   place-found e h = rw (e, eq-eqb _ _ h) (omega arith)
 
-pub place-none : (child i n : ℕ) (pg : List ℕ) → n ≡ 0 → i + firstWhere (λ c. eqb c child) (childrenFrom i n pg) ≡ i
+pub place-none : (child i n : ℕ) (pg : List ℕ) → n ≡ 0 → i + firstWhere (λ c. eqb c child) (childrenFrom pg i n) ≡ i
 unfolding firstWhere childrenFrom
 place-none child i n pg e = rw e (omega arith)

@@ -23,19 +23,19 @@ unfoldable pub childAt : List ℕ → ℕ → ℕ
 childAt pg i = leAt 4 pg (headerSize + 8 * i)
 
 -- n keys, and n children, from the i-th on
-unfoldable pub keysFrom : (i n : ℕ) → List ℕ → List ℕ
-keysFrom i zero pg = []
-keysFrom i (suc n) pg = keyAt pg i ∷ keysFrom (i + 1) n pg
+unfoldable pub keysFrom : List ℕ → (i n : ℕ) → List ℕ
+keysFrom pg i zero = []
+keysFrom pg i (suc n) = keyAt pg i ∷ keysFrom pg (i + 1) n
 
-unfoldable pub childrenFrom : (i n : ℕ) → List ℕ → List ℕ
-childrenFrom i zero pg = []
-childrenFrom i (suc n) pg = childAt pg i ∷ childrenFrom (i + 1) n pg
+unfoldable pub childrenFrom : List ℕ → (i n : ℕ) → List ℕ
+childrenFrom pg i zero = []
+childrenFrom pg i (suc n) = childAt pg i ∷ childrenFrom pg (i + 1) n
 
 abbrev pub keysOf : List ℕ → List ℕ
-keysOf pg = keysFrom 0 (cellCount pg) pg
+keysOf pg = keysFrom pg 0 (cellCount pg)
 
 abbrev pub childrenOf : List ℕ → List ℕ
-childrenOf pg = childrenFrom 0 (cellCount pg + 1) pg
+childrenOf pg = childrenFrom pg 0 (cellCount pg + 1)
 
 -- x, then l, never falls
 unfoldable pub neverFalls : ℕ → List ℕ → Bool
@@ -43,8 +43,8 @@ neverFalls x [] = true
 neverFalls x (y ∷ ys) = leb x y && neverFalls y ys
 
 -- page p with the bytes pg: how many keys it has, or its fault. A rank is never below 0.
-unfoldable pub judgeInner : ℕ → List ℕ → InnerJudged
-judgeInner p pg =
+unfoldable pub judgeInner : List ℕ → ℕ → InnerJudged
+judgeInner pg p =
     pick (eqb (nodeType pg) nodeInternal && (leb 1 (cellCount pg) && (leb (cellCount pg) maxKeys && neverFalls 0 (keysOf pg))))
     (InnerJudged.Ok (cellCount pg))
     (InnerJudged.Bad (structural p))

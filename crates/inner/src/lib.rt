@@ -41,7 +41,7 @@ pub fn child_at(pg: &[u8], i: usize) -> u32
 // A flag and no way out of the loop, so that the compiler takes several keys at a time: this runs on every descent.
 fn never_falls(pg: &[u8], n: usize) -> bool
     requires { ⌜ (n ≤ 510) × (length (now pg) ≡ 4096) ⌝ }
-    ensures { λ r. ⌜ r ≡ neverFalls 0 (keysFrom 0 n (now (pg .entry))) ⌝ }
+    ensures { λ r. ⌜ r ≡ neverFalls 0 (keysFrom (now (pg .entry)) 0 n) ⌝ }
 {
     let mut ok = true;
     let mut last: u32 = 0;
@@ -58,7 +58,7 @@ fn never_falls(pg: &[u8], n: usize) -> bool
 // How many keys page p has, if it is internal, with 1 to 510 keys that never fall; otherwise its fault.
 pub fn judge_inner(pg: &[u8], p: u32) -> InnerJudged
     requires { ⌜ length (now pg) ≡ 4096 ⌝ }
-    ensures { λ r. ⌜ r ≡ judgeInner p (now (pg .entry)) ⌝ }
+    ensures { λ r. ⌜ r ≡ judgeInner (now (pg .entry)) p ⌝ }
 {
     let bad = row::structural_fault(p);
     let n = page::get_cell_count(pg) as usize;
@@ -79,8 +79,8 @@ pub fn judge_inner(pg: &[u8], p: u32) -> InnerJudged
 
 // The first of the n keys that is at least the bound, by halves: the keys never fall.
 fn first_from(pg: &[u8], n: usize, bound: u64) -> usize
-    requires { ⌜ (n ≤ 510) × (length (now pg) ≡ 4096) × (neverFalls 0 (keysFrom 0 n (now pg)) ≡ true) ⌝ }
-    ensures { λ r. ⌜ (r ≡ firstWhere (leb bound) (keysFrom 0 n (now (pg .entry)))) × (r ≤ n) ⌝ }
+    requires { ⌜ (n ≤ 510) × (length (now pg) ≡ 4096) × (neverFalls 0 (keysFrom (now pg) 0 n) ≡ true) ⌝ }
+    ensures { λ r. ⌜ (r ≡ firstWhere (leb bound) (keysFrom (now (pg .entry)) 0 n)) × (r ≤ n) ⌝ }
 {
     let mut lo = 0;
     let mut hi = n;
@@ -98,16 +98,16 @@ fn first_from(pg: &[u8], n: usize, bound: u64) -> usize
 
 // The place of the child that search goes to: left on key ≤ separator.
 pub fn leftmost_child_for_key(pg: &[u8], n: usize, key: u32) -> usize
-    requires { ⌜ (n ≤ 510) × (length (now pg) ≡ 4096) × (neverFalls 0 (keysFrom 0 n (now pg)) ≡ true) ⌝ }
-    ensures { λ r. ⌜ (r ≡ searchRoute key (keysFrom 0 n (now (pg .entry)))) × (r ≤ n) ⌝ }
+    requires { ⌜ (n ≤ 510) × (length (now pg) ≡ 4096) × (neverFalls 0 (keysFrom (now pg) 0 n) ≡ true) ⌝ }
+    ensures { λ r. ⌜ (r ≡ searchRoute key (keysFrom (now (pg .entry)) 0 n)) × (r ≤ n) ⌝ }
 {
     first_from(pg, n, key as u64)
 }
 
 // The place of the child that insertion goes to: left only on key < separator.
 pub fn child_for_key(pg: &[u8], n: usize, key: u32) -> usize
-    requires { ⌜ (n ≤ 510) × (length (now pg) ≡ 4096) × (neverFalls 0 (keysFrom 0 n (now pg)) ≡ true) ⌝ }
-    ensures { λ r. ⌜ (r ≡ insertRoute key (keysFrom 0 n (now (pg .entry)))) × (r ≤ n) ⌝ }
+    requires { ⌜ (n ≤ 510) × (length (now pg) ≡ 4096) × (neverFalls 0 (keysFrom (now pg) 0 n) ≡ true) ⌝ }
+    ensures { λ r. ⌜ (r ≡ insertRoute key (keysFrom (now (pg .entry)) 0 n)) × (r ≤ n) ⌝ }
 {
     first_from(pg, n, key as u64 + 1)
 }
@@ -115,7 +115,7 @@ pub fn child_for_key(pg: &[u8], n: usize, key: u32) -> usize
 // The first place of a child among n children, or n.
 pub fn child_place(pg: &[u8], n: usize, child: u32) -> usize
     requires { ⌜ (n ≤ 511) × (length (now pg) ≡ 4096) ⌝ }
-    ensures { λ r. ⌜ (r ≡ childPlace child (childrenFrom 0 n (now (pg .entry)))) × (r ≤ n) ⌝ }
+    ensures { λ r. ⌜ (r ≡ childPlace child (childrenFrom (now (pg .entry)) 0 n)) × (r ≤ n) ⌝ }
 {
     let mut i = 0;
     while i < n {

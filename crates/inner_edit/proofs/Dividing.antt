@@ -116,22 +116,22 @@ module _ (i sep child : ℕ) (pg : List ℕ) (len : length pg ≡ 4096) (full : 
 
 -- ---- from page p to page q of a pool
 
-module _ (p q i sep child : ℕ) (s : List ℕ) (less : p < q) (fits : q * 4096 + 4096 ≤ length s) (in₀ : i ≤ 510) (full : cellCount (page p s) ≡ 510) where
-  len-p : length (page p s) ≡ 4096
+module _ (p q i sep child : ℕ) (s : List ℕ) (less : p < q) (fits : q * 4096 + 4096 ≤ length s) (in₀ : i ≤ 510) (full : cellCount (page s p) ≡ 510) where
+  len-p : length (page s p) ≡ 4096
   len-p = length-page p s (omega arith)
 
-  len-q : length (page q s) ≡ 4096
+  len-q : length (page s q) ≡ 4096
   len-q = length-page q s fits
 
   -- the bytes that go right
   abbrev pub carried : List ℕ
-  carried = part 2060 2044 (entered i sep child (page p s))
+  carried = part 2060 2044 (entered i sep child (page s p))
 
   length-carried : length carried ≡ 2044
-  length-carried = length-right i sep child (page p s) len-p full in₀
+  length-carried = length-right i sep child (page s p) len-p full in₀
 
   pub carry-low : i < 255 → put (q * 4096 + 12) (part (p * 4096 + 2052) 2044 s) s ≡ put (q * 4096 + 12) carried s
-  carry-low h = rw (right-low i sep child (page p s) len-p full in₀ h, part-page p 2052 2044 s (omega arith))
+  carry-low h = rw (right-low i sep child (page s p) len-p full in₀ h, part-page p 2052 2044 s (omega arith))
 
   pub carry-here : {s₁ s₂ : List ℕ} → i ≡ 255 → s₁ ≡ putAt 4 s (q * 4096 + 12) child → s₂ ≡ put (q * 4096 + 12 + 4) (part (p * 4096 + 2056) 2040 s₁) s₁
       → s₂ ≡ put (q * 4096 + 12) carried s
@@ -145,7 +145,7 @@ module _ (p q i sep child : ℕ) (s : List ℕ) (less : p < q) (fits : q * 4096 
         putAt-put 4 to child s (omega arith),
         part-put-below to x s (omega arith) (p * 4096 + 2056) 2040 (omega arith),
         put-after-at to (to + 4) x (part (p * 4096 + 2056) 2040 s) s (omega arith) l,
-        right-here i sep child (page p s) len-p full in₀ h,
+        right-here i sep child (page s p) len-p full in₀ h,
         part-page p 2056 2040 s (omega arith),
       )
 
@@ -168,7 +168,7 @@ module _ (p q i sep child : ℕ) (s : List ℕ) (less : p < q) (fits : q * 4096 
         put-after-at to (to + k) A B s (omega arith) x,
         part-put-below to (A ++ B) s (omega arith) (p * 4096 + 2060 + k) (2036 - k) (omega arith),
         put-after-at to (to + k + 8) (A ++ B) (part (p * 4096 + 2060 + k) (2036 - k) s) s (omega arith) y,
-        right-high i sep child (page p s) len-p full in₀ k (omega arith) (omega arith),
+        right-high i sep child (page s p) len-p full in₀ k (omega arith) (omega arith),
         z,
         part-page p 2060 k s (omega arith),
         part-page p (2060 + k) (2036 - k) s (omega arith),
@@ -177,28 +177,28 @@ module _ (p q i sep child : ℕ) (s : List ℕ) (less : p < q) (fits : q * 4096 
 
   -- ---- the two pages
 
-  pub right-done : {s₁ y : List ℕ} → s₁ ≡ put (q * 4096 + 12) carried s → y ≡ withCount 255 (pad 4096 (part 0 2056 (page q s₁)))
-      → setPage q y s₁ ≡ setPage q (rightHalf i sep child (page p s) (page q s)) s
+  pub right-done : {s₁ y : List ℕ} → s₁ ≡ put (q * 4096 + 12) carried s → y ≡ withCount 255 (pad 4096 (part 0 2056 (page s₁ q)))
+      → setPage q y s₁ ≡ setPage q (rightHalf i sep child (page s p) (page s q)) s
   unfolding rightHalf
   right-done {s₁} {y} e f =
-      let x = put 12 carried (page q s) in
-      let lx : length x ≡ 4096 = length-put 12 carried (page q s) (omega (arith, length-carried, len-q)) ∙ len-q in
+      let x = put 12 carried (page s q) in
+      let lx : length x ≡ 4096 = length-put 12 carried (page s q) (omega (arith, length-carried, len-q)) ∙ len-q in
       let is : s₁ ≡ setPage q x s = e ∙ put-page q 12 carried s fits (omega (arith, length-carried)) in
       let l : 2056 ≡ 12 + length carried = rw length-carried in
-      rw (f, is, page-setPage q x s fits lx, setPage-setPage q x _ s fits lx, part-thru 12 carried (page q s) (omega (arith, len-q)) 2056 l)
+      rw (f, is, page-setPage q x s fits lx, setPage-setPage q x _ s fits lx, part-thru 12 carried (page s q) (omega (arith, len-q)) 2056 l)
 
-  length-half : length (rightHalf i sep child (page p s) (page q s)) ≡ 4096
+  length-half : length (rightHalf i sep child (page s p) (page s q)) ≡ 4096
   unfolding rightHalf
   length-half =
-      let l : length (part 0 12 (page q s) ++ carried) ≡ 2056 = rw (length-append, length-part 0 12 (page q s) (omega (arith, len-q)), length-carried) in
-      rw length-putAt (length-pad 4096 (part 0 12 (page q s) ++ carried) (omega arith))
+      let l : length (part 0 12 (page s q) ++ carried) ≡ 2056 = rw (length-append, length-part 0 12 (page s q) (omega (arith, len-q)), length-carried) in
+      rw length-putAt (length-pad 4096 (part 0 12 (page s q) ++ carried) (omega arith))
 
   -- the right half leaves page p as it was
-  pub right-beside : page p (setPage q (rightHalf i sep child (page p s) (page q s)) s) ≡ page p s
-  right-beside = page-setPage-other q (rightHalf i sep child (page p s) (page q s)) s fits length-half p (λ e. omega arith)
+  pub right-beside : page (setPage q (rightHalf i sep child (page s p) (page s q)) s) p ≡ page s p
+  right-beside = page-setPage-other q (rightHalf i sep child (page s p) (page s q)) s fits length-half p (λ e. omega arith)
 
-  pub divide-done : {s₁ y : List ℕ} → s₁ ≡ setPage q (rightHalf i sep child (page p s) (page q s)) s → y ≡ leftHalf i sep child (page p s₁)
-      → setPage p y s₁ ≡ setPage p (leftHalf i sep child (page p s)) (setPage q (rightHalf i sep child (page p s) (page q s)) s)
+  pub divide-done : {s₁ y : List ℕ} → s₁ ≡ setPage q (rightHalf i sep child (page s p) (page s q)) s → y ≡ leftHalf i sep child (page s₁ p)
+      → setPage p y s₁ ≡ setPage p (leftHalf i sep child (page s p)) (setPage q (rightHalf i sep child (page s p) (page s q)) s)
   divide-done e f = rw (f, e, right-beside)
 
 pub middle-less : (i sep new : ℕ) (pg : List ℕ) → middleKey i sep new pg < 4294967296

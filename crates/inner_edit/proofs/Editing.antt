@@ -77,16 +77,16 @@ enter-done s i n sep child len count h few p q =
 -- ---- parent links: a turn of the loop, and its end
 
 -- c is child k, and t the pool with its parent set
-module _ (n m k p q : ℕ) (s : List ℕ) {pg : List ℕ} {c : ℕ} (more : n ≡ suc m) (of : pg ≡ page p s) (child : c ≡ childAt pg k) where
+module _ (n m k p q : ℕ) (s : List ℕ) {pg : List ℕ} {c : ℕ} (more : n ≡ suc m) (of : pg ≡ page s p) (child : c ≡ childAt pg k) where
   pub adopt-here : AdoptSafe n k p q s → c * 4096 + 4096 ≤ length s
   unfolding AdoptSafe
   adopt-here h = rw (child, of) ((rw more at h) .0)
 
-  pub adopt-safe : {t : List ℕ} → t ≡ setPage c (withParent q (page c s)) s → AdoptSafe n k p q s → AdoptSafe m (k + 1) p q t
+  pub adopt-safe : {t : List ℕ} → t ≡ setPage c (withParent q (page s c)) s → AdoptSafe n k p q s → AdoptSafe m (k + 1) p q t
   unfolding AdoptSafe
   adopt-safe e h = rw (e, child, of) ((rw more at h) .1)
 
-  pub adopt-turn : {t : List ℕ} → t ≡ setPage c (withParent q (page c s)) s → adopted m (k + 1) p q t ≡ adopted n k p q s
+  pub adopt-turn : {t : List ℕ} → t ≡ setPage c (withParent q (page s c)) s → adopted m (k + 1) p q t ≡ adopted n k p q s
   unfolding adopted
   adopt-turn e = rw (more, e, child, of)
 

@@ -35,7 +35,7 @@ module _ (count : ℕ) (x : List ℕ) (fits : length x ≤ 4096) where
 -- it has the keys and children of v from the j-th on, if its fields from 12 on are those of v
 module _ (count j : ℕ) (x v : List ℕ) (whole : length x ≡ 16 + 8 * count) (fits : length x ≤ 4096)
     (same : (b : ℕ) → 12 ≤ b → b + 4 ≤ length x → leAt 4 x b ≡ leAt 4 v (b + 8 * j)) where
-  made-keys : keysOf (withCount count (pad 4096 x)) ≡ keysFrom j count v
+  made-keys : keysOf (withCount count (pad 4096 x)) ≡ keysFrom v j count
   unfolding keyAt
   made-keys =
       rw (made-count count x fits (omega arith), keys-read count 0 (withCount count (pad 4096 x)), keys-read count j v)
@@ -43,7 +43,7 @@ module _ (count j : ℕ) (x v : List ℕ) (whole : length x ≡ 16 + 8 * count) 
       let e : 16 + 8 * (0 + k) + 8 * j ≡ 16 + 8 * (j + k) = omega arith in
       ap flip (made-field count x fits (16 + 8 * (0 + k)) (omega arith) (omega arith) ∙ same (16 + 8 * (0 + k)) (omega arith) (omega arith) ∙ ap (leAt 4 v) e)))
 
-  made-children : childrenOf (withCount count (pad 4096 x)) ≡ childrenFrom j (count + 1) v
+  made-children : childrenOf (withCount count (pad 4096 x)) ≡ childrenFrom v j (count + 1)
   unfolding childAt
   made-children =
       rw (made-count count x fits (omega arith), children-read (count + 1) 0 (withCount count (pad 4096 x)), children-read (count + 1) j v)
@@ -54,7 +54,7 @@ module _ (count j : ℕ) (x v : List ℕ) (whole : length x ≡ 16 + 8 * count) 
 -- ---- the page with a pair entered, as lists
 
 module _ (i sep child : ℕ) (pg : List ℕ) (len : length pg ≡ 4096) (few : cellCount pg ≤ 510) (in₀ : i ≤ cellCount pg) where
-  pub entered-keys : sep < 4294967296 → keysFrom 0 (cellCount pg + 1) (entered i sep child pg) ≡ insertAt i sep (keysOf pg)
+  pub entered-keys : sep < 4294967296 → keysFrom (entered i sep child pg) 0 (cellCount pg + 1) ≡ insertAt i sep (keysOf pg)
   unfolding keyAt
   entered-keys fits =
       let v = entered i sep child pg in
@@ -64,7 +64,7 @@ module _ (i sep child : ℕ) (pg : List ℕ) (len : length pg ≡ 4096) (few : c
       (ap flip (leAt-first 4 (16 + 8 * i) 8 (flip sep) (bytesLE 4 child) v (omega arith) (flip-less sep) (entered-pair i sep child pg len few in₀ (16 + 8 * i) refl)) ∙ flip-flip sep fits)
       (λ k l m. ap flip (leAt-same 4 (16 + 8 * (k + 1)) (16 + 8 * k) v pg (entered-after i sep child pg len few in₀ (16 + 8 * k) (16 + 8 * (k + 1)) 4 (omega arith) (omega arith) (omega arith)))))
 
-  pub entered-children : child < 4294967296 → childrenFrom 0 (cellCount pg + 1 + 1) (entered i sep child pg) ≡ insertAt (i + 1) child (childrenOf pg)
+  pub entered-children : child < 4294967296 → childrenFrom (entered i sep child pg) 0 (cellCount pg + 1 + 1) ≡ insertAt (i + 1) child (childrenOf pg)
   unfolding childAt
   entered-children fits =
       let v = entered i sep child pg in
@@ -121,37 +121,37 @@ module _ (i sep child : ℕ) (pg fresh : List ℕ) (len : length pg ≡ 4096) (f
       ∙ leAt-part 4 2060 2044 v (b - 12) (omega (arith, in-right))
       ∙ ap (leAt 4 v) e
 
-  left-keys : keysOf (leftHalf i sep child pg) ≡ keysFrom 0 255 (entered i sep child pg)
+  left-keys : keysOf (leftHalf i sep child pg) ≡ keysFrom (entered i sep child pg) 0 255
   unfolding leftHalf
   left-keys = made-keys 255 0 left-bytes (entered i sep child pg) in-left (omega (arith, in-left)) left-field
 
-  left-children : childrenOf (leftHalf i sep child pg) ≡ childrenFrom 0 256 (entered i sep child pg)
+  left-children : childrenOf (leftHalf i sep child pg) ≡ childrenFrom (entered i sep child pg) 0 256
   unfolding leftHalf
   left-children = made-children 255 0 left-bytes (entered i sep child pg) in-left (omega (arith, in-left)) left-field
 
-  right-keys : keysOf (rightHalf i sep child pg fresh) ≡ keysFrom 256 255 (entered i sep child pg)
+  right-keys : keysOf (rightHalf i sep child pg fresh) ≡ keysFrom (entered i sep child pg) 256 255
   unfolding rightHalf
   right-keys = made-keys 255 256 right-bytes (entered i sep child pg) in-right (omega (arith, in-right)) right-field
 
-  right-children : childrenOf (rightHalf i sep child pg fresh) ≡ childrenFrom 256 256 (entered i sep child pg)
+  right-children : childrenOf (rightHalf i sep child pg fresh) ≡ childrenFrom (entered i sep child pg) 256 256
   unfolding rightHalf
   right-children = made-children 255 256 right-bytes (entered i sep child pg) in-right (omega (arith, in-right)) right-field
 
 -- the lists of a page, taken apart
 module _ (n m r : ℕ) (v : List ℕ) (split : n ≡ m + r) where
-  keys-take : keysFrom 0 m v ≡ take m (keysFrom 0 n v)
+  keys-take : keysFrom v 0 m ≡ take m (keysFrom v 0 n)
   keys-take = rw (keys-read n 0 v, keys-read m 0 v) (sym (read-take (keyAt v) n m r 0 split))
 
-  keys-drop : keysFrom m r v ≡ drop m (keysFrom 0 n v)
+  keys-drop : keysFrom v m r ≡ drop m (keysFrom v 0 n)
   keys-drop = rw (keys-read n 0 v, keys-read r m v) (sym (rw zero-add at (read-drop (keyAt v) n m r 0 split)))
 
-  children-take : childrenFrom 0 m v ≡ take m (childrenFrom 0 n v)
+  children-take : childrenFrom v 0 m ≡ take m (childrenFrom v 0 n)
   children-take = rw (children-read n 0 v, children-read m 0 v) (sym (read-take (childAt v) n m r 0 split))
 
-  children-drop : childrenFrom m r v ≡ drop m (childrenFrom 0 n v)
+  children-drop : childrenFrom v m r ≡ drop m (childrenFrom v 0 n)
   children-drop = rw (children-read n 0 v, children-read r m v) (sym (rw zero-add at (read-drop (childAt v) n m r 0 split)))
 
-middle-at : (n i sep child : ℕ) (pg : List ℕ) → 255 < n → middleKey i sep child pg ≡ getD (keysFrom 0 n (entered i sep child pg)) 255 0
+middle-at : (n i sep child : ℕ) (pg : List ℕ) → 255 < n → middleKey i sep child pg ≡ getD (keysFrom (entered i sep child pg) 0 n) 255 0
 unfolding middleKey keyAt
 middle-at n i sep child pg h = rw (keys-read n 0 (entered i sep child pg)) (sym (read-at (keyAt (entered i sep child pg)) n 255 0 h))
 

@@ -15,12 +15,12 @@ unfoldable pub readFrom : (ℕ → ℕ) → (i n : ℕ) → List ℕ
 readFrom f i zero = []
 readFrom f i (suc n) = f i ∷ readFrom f (i + 1) n
 
-pub keys-read : (n i : ℕ) (pg : List ℕ) → keysFrom i n pg ≡ readFrom (keyAt pg) i n
+pub keys-read : (n i : ℕ) (pg : List ℕ) → keysFrom pg i n ≡ readFrom (keyAt pg) i n
 unfolding keysFrom readFrom
 keys-read zero i pg = refl
 keys-read (suc n) i pg = ap (λ (l : List ℕ). keyAt pg i ∷ l) (keys-read n (i + 1) pg)
 
-pub children-read : (n i : ℕ) (pg : List ℕ) → childrenFrom i n pg ≡ readFrom (childAt pg) i n
+pub children-read : (n i : ℕ) (pg : List ℕ) → childrenFrom pg i n ≡ readFrom (childAt pg) i n
 unfolding childrenFrom readFrom
 children-read zero i pg = refl
 children-read (suc n) i pg = ap (λ (l : List ℕ). childAt pg i ∷ l) (children-read n (i + 1) pg)

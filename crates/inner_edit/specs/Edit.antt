@@ -54,4 +54,4 @@ topPage left sep right pg = putAt 4 (putAt 4 (putAt 4 (withCount 1 (withIsRoot 1
 -- children i, i + 1, .., i + n - 1 of page p get the parent q, in that order
 unfoldable pub adopted : (n i p q : ℕ) → List ℕ → List ℕ
 adopted zero i p q s = s
-adopted (suc n) i p q s = adopted n (i + 1) p q (setPage (childAt (page p s) i) (withParent q (page (childAt (page p s) i) s)) s)
+adopted (suc n) i p q s = adopted n (i + 1) p q (setPage (childAt (page s p) i) (withParent q (page s (childAt (page s p) i))) s)

@@ -75,7 +75,7 @@ pub fn write_top(pg: &mut [u8], left: u32, sep: u32, right: u32)
 // Page c of the pool gets the parent q.
 pub fn adopt_one(pool: &mut [u8], c: u32, q: u32)
     requires { ⌜ c * 4096 + 4096 ≤ length (now pool) ⌝ }
-    ensures { λ _. ⌜ now (pool .exit) ≡ setPage c (withParent q (page c (now (pool .entry)))) (now (pool .entry)) ⌝ }
+    ensures { λ _. ⌜ now (pool .exit) ≡ setPage c (withParent q (page (now (pool .entry)) c)) (now (pool .entry)) ⌝ }
 {
     let a = c as usize * page::PAGE_SIZE;
     let e = a + page::PAGE_SIZE;
@@ -113,8 +113,8 @@ fn middle_key(pg: &[u8], i: usize, sep: u32) -> u32
 
 // Bytes 2060 to 4104 of the page with the pair entered, where the pair stands among them.
 fn carry_around(pool: &mut [u8], p: u32, q: u32, i: usize, sep: u32, child: u32)
-    requires { ⌜ (p < q) × (q * 4096 + 4096 ≤ length (now pool)) × (255 < i) × (i ≤ 510) × (cellCount (page p (now pool)) ≡ 510) ⌝ }
-    ensures { λ _. ⌜ now (pool .exit) ≡ put (q * 4096 + 12) (part 2060 2044 (entered i sep child (page p (now (pool .entry))))) (now (pool .entry)) ⌝ }
+    requires { ⌜ (p < q) × (q * 4096 + 4096 ≤ length (now pool)) × (255 < i) × (i ≤ 510) × (cellCount (page (now pool) p) ≡ 510) ⌝ }
+    ensures { λ _. ⌜ now (pool .exit) ≡ put (q * 4096 + 12) (part 2060 2044 (entered i sep child (page (now (pool .entry)) p))) (now (pool .entry)) ⌝ }
 {
     let from = p as usize * page::PAGE_SIZE;
     let to = q as usize * page::PAGE_SIZE + page::HEADER_SIZE;
@@ -126,8 +126,8 @@ fn carry_around(pool: &mut [u8], p: u32, q: u32, i: usize, sep: u32, child: u32)
 
 // The same bytes, wherever the pair stands. They go by offsets into the pool, since they lie in one page and go to another.
 fn carry(pool: &mut [u8], p: u32, q: u32, i: usize, sep: u32, child: u32)
-    requires { ⌜ (p < q) × (q * 4096 + 4096 ≤ length (now pool)) × (i ≤ 510) × (cellCount (page p (now pool)) ≡ 510) ⌝ }
-    ensures { λ _. ⌜ now (pool .exit) ≡ put (q * 4096 + 12) (part 2060 2044 (entered i sep child (page p (now (pool .entry))))) (now (pool .entry)) ⌝ }
+    requires { ⌜ (p < q) × (q * 4096 + 4096 ≤ length (now pool)) × (i ≤ 510) × (cellCount (page (now pool) p) ≡ 510) ⌝ }
+    ensures { λ _. ⌜ now (pool .exit) ≡ put (q * 4096 + 12) (part 2060 2044 (entered i sep child (page (now (pool .entry)) p))) (now (pool .entry)) ⌝ }
 {
     let from = p as usize * page::PAGE_SIZE;
     let to = q as usize * page::PAGE_SIZE + page::HEADER_SIZE;
@@ -142,8 +142,8 @@ fn carry(pool: &mut [u8], p: u32, q: u32, i: usize, sep: u32, child: u32)
 }
 
 fn right_half(pool: &mut [u8], p: u32, q: u32, i: usize, sep: u32, child: u32)
-    requires { ⌜ (p < q) × (q * 4096 + 4096 ≤ length (now pool)) × (i ≤ 510) × (cellCount (page p (now pool)) ≡ 510) ⌝ }
-    ensures { λ _. ⌜ now (pool .exit) ≡ setPage q (rightHalf i sep child (page p (now (pool .entry))) (page q (now (pool .entry)))) (now (pool .entry)) ⌝ }
+    requires { ⌜ (p < q) × (q * 4096 + 4096 ≤ length (now pool)) × (i ≤ 510) × (cellCount (page (now pool) p) ≡ 510) ⌝ }
+    ensures { λ _. ⌜ now (pool .exit) ≡ setPage q (rightHalf i sep child (page (now (pool .entry)) p) (page (now (pool .entry)) q)) (now (pool .entry)) ⌝ }
 {
     carry(pool, p, q, i, sep, child);
     let a = q as usize * page::PAGE_SIZE;
@@ -171,9 +171,9 @@ fn left_half(pg: &mut [u8], i: usize, sep: u32, child: u32)
 
 // Page p with 510 keys and the pair after child i: 255 keys stay, 255 go to page q, and the key between them is the answer.
 pub fn divide(pool: &mut [u8], p: u32, q: u32, i: usize, sep: u32, child: u32) -> u32
-    requires { ⌜ (p < q) × (q * 4096 + 4096 ≤ length (now pool)) × (i ≤ 510) × (cellCount (page p (now pool)) ≡ 510) ⌝ }
-    ensures { λ r. ⌜ r ≡ middleKey i sep child (page p (now (pool .entry))) ⌝ }
-    ensures { λ _. ⌜ now (pool .exit) ≡ setPage p (leftHalf i sep child (page p (now (pool .entry)))) (setPage q (rightHalf i sep child (page p (now (pool .entry))) (page q (now (pool .entry)))) (now (pool .entry))) ⌝ }
+    requires { ⌜ (p < q) × (q * 4096 + 4096 ≤ length (now pool)) × (i ≤ 510) × (cellCount (page (now pool) p) ≡ 510) ⌝ }
+    ensures { λ r. ⌜ r ≡ middleKey i sep child (page (now (pool .entry)) p) ⌝ }
+    ensures { λ _. ⌜ now (pool .exit) ≡ setPage p (leftHalf i sep child (page (now (pool .entry)) p)) (setPage q (rightHalf i sep child (page (now (pool .entry)) p) (page (now (pool .entry)) q)) (now (pool .entry))) ⌝ }
 {
     let middle = middle_key(page::pool::page_of(pool, p), i, sep);
     right_half(pool, p, q, i, sep, child);

@@ -8,6 +8,6 @@ use Rattle.store.specs.Le.{AreBytes}
 use Rattle.page.specs.Page.{page}
 use Rattle.store.proofs.PartLaws.{le-or-lt, getD-part, bytes-part}
 
-pub bytes-page : (p : ℕ) (s : List ℕ) → AreBytes s → AreBytes (page p s)
+pub bytes-page : (p : ℕ) (s : List ℕ) → AreBytes s → AreBytes (page s p)
 unfolding page
 bytes-page p s B = bytes-part (p * 4096) 4096 s B

@@ -32,16 +32,16 @@ Chain s at [] = Unit
 Chain s at (c ∷ cs) = (cellAt s at ≡ CellRead.Got c) × Chain s (c .next) cs
 
 module _ (s : List ℕ) where
-  pub chain-cells : (n at : ℕ) → Chain s at (cellsOf n at s)
+  pub chain-cells : (n at : ℕ) → Chain s at (cellsOf s n at)
   unfolding cellsOf
   chain-cells zero at = tt
   chain-cells (suc n) at = by-read (cellAt s at) refl (λ c. chain-cells n (c .next))
     where
-      by-read : (r : CellRead) → cellAt s at ≡ r → ((c : Cell) → Chain s (c .next) (cellsOf n (c .next) s)) → Chain s at (onCell (λ c. c ∷ cellsOf n (c .next) s) (λ kind. []) r)
+      by-read : (r : CellRead) → cellAt s at ≡ r → ((c : Cell) → Chain s (c .next) (cellsOf s n (c .next))) → Chain s at (onCell (λ c. c ∷ cellsOf s n (c .next)) (λ kind. []) r)
       by-read (CellRead.Bad kind) e ih = tt
       by-read (CellRead.Got c) e ih = (e, ih c)
 
-  pub chain-back : (at : ℕ) (cs : List Cell) → Chain s at cs → cellsOf (length cs) at s ≡ cs
+  pub chain-back : (at : ℕ) (cs : List Cell) → Chain s at cs → cellsOf s (length cs) at ≡ cs
   unfolding cellsOf
   chain-back at [] h = refl
   chain-back at (c ∷ cs) h = rw (h .0, chain-back (c .next) cs (h .1))
@@ -106,30 +106,30 @@ Rising k c (x ∷ xs) = (inOrder k c (x .key) (x .version .creator) ≡ true) ×
 
 -- all n cells are there, in order, and they end at e
 pub record AllThere (s : List ℕ) (k c n at e : ℕ) : Type 0 where
-  pub count : length (cellsOf n at s) ≡ n
-  pub end : endOf at (cellsOf n at s) ≡ e
-  pub rising : Rising k c (cellsOf n at s)
+  pub count : length (cellsOf s n at) ≡ n
+  pub end : endOf at (cellsOf s n at) ≡ e
+  pub rising : Rising k c (cellsOf s n at)
 
-pub judged-all : (s : List ℕ) (p k c n at e : ℕ) → judgeCells p k c n at s ≡ Judged.Ok e → AllThere s k c n at e
+pub judged-all : (s : List ℕ) (p k c n at e : ℕ) → judgeCells s p k c n at ≡ Judged.Ok e → AllThere s k c n at e
 unfolding judgeCells cellsOf endOf
 judged-all s p k c zero at e h = record { count = refl; end = cc; rising = tt }
-judged-all s p k c (suc n) at e h = by-step (stepOf p k c at s) refl (λ x. judged-all s p (x .key) (x .version .creator) n (x .next) e) h
+judged-all s p k c (suc n) at e h = by-step (stepOf s p k c at) refl (λ x. judged-all s p (x .key) (x .version .creator) n (x .next) e) h
   where
-    by-step : (r : Step) → stepOf p k c at s ≡ r
-        → ((x : Cell) → judgeCells p (x .key) (x .version .creator) n (x .next) s ≡ Judged.Ok e → AllThere s (x .key) (x .version .creator) n (x .next) e)
-        → onStep (λ x. judgeCells p (x .key) (x .version .creator) n (x .next) s) (λ f. Judged.Bad f) r ≡ Judged.Ok e → AllThere s k c (suc n) at e
+    by-step : (r : Step) → stepOf s p k c at ≡ r
+        → ((x : Cell) → judgeCells s p (x .key) (x .version .creator) n (x .next) ≡ Judged.Ok e → AllThere s (x .key) (x .version .creator) n (x .next) e)
+        → onStep (λ x. judgeCells s p (x .key) (x .version .creator) n (x .next)) (λ f. Judged.Bad f) r ≡ Judged.Ok e → AllThere s k c (suc n) at e
     by-step (Step.Bad f) q ih w = absurd (let z : _≡_ {A = ℕ} 0 1 = cc in omega arith)
     by-step (Step.Got x) q ih w =
         let t = step-cell s p k c at (sym q) refl in
         let i = ih x w in
-        let u : cellsOf (suc n) at s ≡ x ∷ cellsOf n (x .next) s = rw (t .0) in
+        let u : cellsOf s (suc n) at ≡ x ∷ cellsOf s n (x .next) = rw (t .0) in
         record { count = rw u (ap suc (i .count)); end = rw u (i .end); rising = rw u (t .1, i .rising) }
 
-pub judged-leaf : (p : ℕ) (pg : List ℕ) (e : ℕ) → judgeLeaf p pg ≡ Judged.Ok e → AllThere pg 0 0 (cellCount pg) 12 e
+pub judged-leaf : (p : ℕ) (pg : List ℕ) (e : ℕ) → judgeLeaf pg p ≡ Judged.Ok e → AllThere pg 0 0 (cellCount pg) 12 e
 unfolding judgeLeaf
 judged-leaf p pg e h = by-type (eqb (nodeType pg) 1) h
   where
-    by-type : (b : Bool) → pick b (judgeCells p 0 0 (cellCount pg) 12 pg) (Judged.Bad (structural p)) ≡ Judged.Ok e → AllThere pg 0 0 (cellCount pg) 12 e
+    by-type : (b : Bool) → pick b (judgeCells pg p 0 0 (cellCount pg) 12) (Judged.Bad (structural p)) ≡ Judged.Ok e → AllThere pg 0 0 (cellCount pg) 12 e
     by-type true w = judged-all pg p 0 0 (cellCount pg) 12 e w
     by-type false w = absurd (let z : _≡_ {A = ℕ} 0 1 = cc in omega arith)
 

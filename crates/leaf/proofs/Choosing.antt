@@ -112,14 +112,14 @@ lookup-chooses sn st p key cs = walk-chooses sn st key p cs [] Best.Nothing tt
 
 -- ---- any page number
 
-cells-any : (p q e : ℕ) (s : List ℕ) (k c n at : ℕ) → judgeCells p k c n at s ≡ Judged.Ok e → judgeCells q k c n at s ≡ Judged.Ok e
+cells-any : (p q e : ℕ) (s : List ℕ) (k c n at : ℕ) → judgeCells s p k c n at ≡ Judged.Ok e → judgeCells s q k c n at ≡ Judged.Ok e
 unfolding judgeCells
 cells-any p q e s k c zero at j = j
-cells-any p q e s k c (suc n) at j = by-step (stepOf p k c at s) refl j (λ x. cells-any p q e s (x .key) (x .version .creator) n (x .next))
+cells-any p q e s k c (suc n) at j = by-step (stepOf s p k c at) refl j (λ x. cells-any p q e s (x .key) (x .version .creator) n (x .next))
   where
-    by-step : (r : Step) → stepOf p k c at s ≡ r → onStep (λ x. judgeCells p (x .key) (x .version .creator) n (x .next) s) (λ f. Judged.Bad f) r ≡ Judged.Ok e
-        → ((x : Cell) → judgeCells p (x .key) (x .version .creator) n (x .next) s ≡ Judged.Ok e → judgeCells q (x .key) (x .version .creator) n (x .next) s ≡ Judged.Ok e)
-        → onStep (λ x. judgeCells q (x .key) (x .version .creator) n (x .next) s) (λ f. Judged.Bad f) (stepOf q k c at s) ≡ Judged.Ok e
+    by-step : (r : Step) → stepOf s p k c at ≡ r → onStep (λ x. judgeCells s p (x .key) (x .version .creator) n (x .next)) (λ f. Judged.Bad f) r ≡ Judged.Ok e
+        → ((x : Cell) → judgeCells s p (x .key) (x .version .creator) n (x .next) ≡ Judged.Ok e → judgeCells s q (x .key) (x .version .creator) n (x .next) ≡ Judged.Ok e)
+        → onStep (λ x. judgeCells s q (x .key) (x .version .creator) n (x .next)) (λ f. Judged.Bad f) (stepOf s q k c at) ≡ Judged.Ok e
     by-step (Step.Bad f) t j ih = absurd (let z : _≡_ {A = ℕ} 0 1 = cc in omega arith)
     by-step (Step.Got x) t j ih = let u = step-cell s p k c at (sym t) refl in rw (← step-in s q k c at (sym (u .0)) refl (sym (u .1)) refl) (ih x j)
 
@@ -127,7 +127,7 @@ pub any-page : AnyPage
 unfolding judgeLeaf
 any-page p q e pg j = by-type (eqb (nodeType pg) 1) j
   where
-    by-type : (b : Bool) → pick b (judgeCells p 0 0 (cellCount pg) 12 pg) (Judged.Bad (structural p)) ≡ Judged.Ok e
-        → pick b (judgeCells q 0 0 (cellCount pg) 12 pg) (Judged.Bad (structural q)) ≡ Judged.Ok e
+    by-type : (b : Bool) → pick b (judgeCells pg p 0 0 (cellCount pg) 12) (Judged.Bad (structural p)) ≡ Judged.Ok e
+        → pick b (judgeCells pg q 0 0 (cellCount pg) 12) (Judged.Bad (structural q)) ≡ Judged.Ok e
     by-type true i = cells-any p q e pg 0 0 (cellCount pg) 12 i
     by-type false i = absurd (let z : _≡_ {A = ℕ} 0 1 = cc in omega arith)

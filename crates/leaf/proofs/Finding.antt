@@ -45,25 +45,25 @@ larger-join key k l h = by-test (ltb key l) refl
     by-test false e = let m = ltb-false key l e in rw (e, le-ltb key k (omega arith))
 
 -- keys that never fall: the last one is the largest
-larger-from : (key : ℕ) (s : List ℕ) (p k c n at : ℕ) {e : ℕ} → judgeCells p k c n at s ≡ Judged.Ok e
-    → foldCells (λ b x. b || ltb key (x .key)) (ltb key k) (cellsOf n at s) ≡ ltb key (lastKey k (cellsOf n at s))
+larger-from : (key : ℕ) (s : List ℕ) (p k c n at : ℕ) {e : ℕ} → judgeCells s p k c n at ≡ Judged.Ok e
+    → foldCells (λ b x. b || ltb key (x .key)) (ltb key k) (cellsOf s n at) ≡ ltb key (lastKey k (cellsOf s n at))
 unfolding judgeCells cellsOf foldCells lastKey
 larger-from key s p k c zero at j = refl
-larger-from key s p k c (suc n) at {e} j = by-step (stepOf p k c at s) refl j (λ x q. larger-from key s p (x .key) (x .version .creator) n (x .next) q)
+larger-from key s p k c (suc n) at {e} j = by-step (stepOf s p k c at) refl j (λ x q. larger-from key s p (x .key) (x .version .creator) n (x .next) q)
   where
-    by-step : (r : Step) → stepOf p k c at s ≡ r → onStep (λ x. judgeCells p (x .key) (x .version .creator) n (x .next) s) (λ f. Judged.Bad f) r ≡ Judged.Ok e
-        → ((x : Cell) → judgeCells p (x .key) (x .version .creator) n (x .next) s ≡ Judged.Ok e
-        → foldCells (λ b y. b || ltb key (y .key)) (ltb key (x .key)) (cellsOf n (x .next) s) ≡ ltb key (lastKey (x .key) (cellsOf n (x .next) s)))
-        → foldCells (λ b x. b || ltb key (x .key)) (ltb key k) (onCell (λ x. x ∷ cellsOf n (x .next) s) (λ kind. []) (cellAt s at))
-        ≡ ltb key (lastKey k (onCell (λ x. x ∷ cellsOf n (x .next) s) (λ kind. []) (cellAt s at)))
+    by-step : (r : Step) → stepOf s p k c at ≡ r → onStep (λ x. judgeCells s p (x .key) (x .version .creator) n (x .next)) (λ f. Judged.Bad f) r ≡ Judged.Ok e
+        → ((x : Cell) → judgeCells s p (x .key) (x .version .creator) n (x .next) ≡ Judged.Ok e
+        → foldCells (λ b y. b || ltb key (y .key)) (ltb key (x .key)) (cellsOf s n (x .next)) ≡ ltb key (lastKey (x .key) (cellsOf s n (x .next))))
+        → foldCells (λ b x. b || ltb key (x .key)) (ltb key k) (onCell (λ x. x ∷ cellsOf s n (x .next)) (λ kind. []) (cellAt s at))
+        ≡ ltb key (lastKey k (onCell (λ x. x ∷ cellsOf s n (x .next)) (λ kind. []) (cellAt s at)))
     by-step (Step.Bad f) q t ih = absurd (let z : _≡_ {A = ℕ} 0 1 = cc in omega arith)
     by-step (Step.Got x) q t ih =
         let u = step-cell s p k c at (sym q) refl in
         rw (u .0)
-        (ap (λ (b : Bool). foldCells (λ d y. d || ltb key (y .key)) b (cellsOf n (x .next) s)) (larger-join key k (x .key) (order-le k c (x .key) (x .version .creator) (u .1)))
+        (ap (λ (b : Bool). foldCells (λ d y. d || ltb key (y .key)) b (cellsOf s n (x .next))) (larger-join key k (x .key) (order-le k c (x .key) (x .version .creator) (u .1)))
         ∙ ih x t)
 
-larger-last : (key : ℕ) (s : List ℕ) (p n at : ℕ) {e : ℕ} → judgeCells p 0 0 n at s ≡ Judged.Ok e → ltb key (lastKey 0 (cellsOf n at s)) ≡ hasLarger key (cellsOf n at s)
+larger-last : (key : ℕ) (s : List ℕ) (p n at : ℕ) {e : ℕ} → judgeCells s p 0 0 n at ≡ Judged.Ok e → ltb key (lastKey 0 (cellsOf s n at)) ≡ hasLarger key (cellsOf s n at)
 unfolding hasLarger
 larger-last key s p n at j = let z : ltb key 0 ≡ false = le-ltb key 0 (omega arith) in sym (rw z at (larger-from key s p 0 0 n at j))
 
@@ -72,7 +72,7 @@ larger-last key s p n at j = let z : ltb key 0 ≡ false = le-ltb key 0 (omega a
 module _ {A B : Type 0} (good : ℕ → A → Bool → B) (ill : Fault → B) (f : A → Cell → A) (p key : ℕ) (pg : List ℕ) (a : A) where
   -- what the contract says
   abbrev pub answer : B
-  answer = onJudged (λ e. good e (foldCells f a (cells pg)) (hasLarger key (cells pg))) ill (judgeLeaf p pg)
+  answer = onJudged (λ e. good e (foldCells f a (cells pg)) (hasLarger key (cells pg))) ill (judgeLeaf pg p)
 
   pub loop-type : {g : Fault} → (nodeType pg ≡ 1 → ⊥) → g ≡ structural p → ill g ≡ answer
   loop-type h e = rw (← leaf-other p pg {f = structural p} h refl, e)
@@ -82,12 +82,12 @@ module _ {A B : Type 0} (good : ℕ → A → Bool → B) (ill : Fault → B) (f
     said {w} q =
         ap (onWalked (λ e k b. good e b (ltb key k)) ill) q
         ∙ (walked (λ e k b. good e b (ltb key k)) ill f pg p 0 0 n 12 a
-        ∙ (by-judged (judgeCells p 0 0 n 12 pg) refl ∙ rw (count, leaf-cells p pg leaf refl refl)))
+        ∙ (by-judged (judgeCells pg p 0 0 n 12) refl ∙ rw (count, leaf-cells p pg leaf refl refl)))
       where
-        by-judged : (j : Judged) → judgeCells p 0 0 n 12 pg ≡ j
-            → onJudged (λ e. good e (foldCells f a (cellsOf n 12 pg)) (ltb key (lastKey 0 (cellsOf n 12 pg)))) ill j
-            ≡ onJudged (λ e. good e (foldCells f a (cellsOf n 12 pg)) (hasLarger key (cellsOf n 12 pg))) ill j
-        by-judged (Judged.Ok e) t = ap (good e (foldCells f a (cellsOf n 12 pg))) (larger-last key pg p n 12 t)
+        by-judged : (j : Judged) → judgeCells pg p 0 0 n 12 ≡ j
+            → onJudged (λ e. good e (foldCells f a (cellsOf pg n 12)) (ltb key (lastKey 0 (cellsOf pg n 12)))) ill j
+            ≡ onJudged (λ e. good e (foldCells f a (cellsOf pg n 12)) (hasLarger key (cellsOf pg n 12))) ill j
+        by-judged (Judged.Ok e) t = ap (good e (foldCells f a (cellsOf pg n 12))) (larger-last key pg p n 12 t)
         by-judged (Judged.Bad g) t = refl
 
     pub loop-bad : {g : Fault} → bad g ≡ walk f p 0 0 n 12 a pg → ill g ≡ answer

@@ -67,18 +67,18 @@ after-append t h [] ys = refl
 after-append t h (x ∷ xs) ys = after-append t (cutStep t h x) xs ys
 
 module _ (t : ℕ) (pg : List ℕ) (at : ℕ) (here : Cutting) where
-  pub cut-done : (n : ℕ) → n ≤ 0 → cutAfter t here (sizesOf (cellsOf n at pg)) ≡ here
+  pub cut-done : (n : ℕ) → n ≤ 0 → cutAfter t here (sizesOf (cellsOf pg n at)) ≡ here
   unfolding cellsOf cutAfter
   cut-done zero h = refl
   cut-done (suc n) h = absurd (omega arith)
 
-  pub cut-bad : (n : ℕ) {r : CellRead} {kind : ℕ} → r ≡ cellAt pg at → r ≡ CellRead.Bad kind → cutAfter t here (sizesOf (cellsOf n at pg)) ≡ here
+  pub cut-bad : (n : ℕ) {r : CellRead} {kind : ℕ} → r ≡ cellAt pg at → r ≡ CellRead.Bad kind → cutAfter t here (sizesOf (cellsOf pg n at)) ≡ here
   unfolding cellsOf cutAfter
   cut-bad zero e q = refl
   cut-bad (suc n) e q = rw (sym e ∙ q)
 
   pub cut-in : (n : ℕ) {r : CellRead} {x : Cell} {y : Cutting} → 0 < n → r ≡ cellAt pg at → r ≡ CellRead.Got x → y ≡ cutStep t here (x .next - x .at)
-      → cutAfter t y (sizesOf (cellsOf (n - 1) (x .next) pg)) ≡ cutAfter t here (sizesOf (cellsOf n at pg))
+      → cutAfter t y (sizesOf (cellsOf pg (n - 1) (x .next))) ≡ cutAfter t here (sizesOf (cellsOf pg n at))
   unfolding cellsOf cutAfter
   cut-in zero h e q w = absurd (omega arith)
   cut-in (suc n) h e q w =
@@ -105,15 +105,15 @@ pub step-passed : (t : ℕ) (here : Cutting) (x : ℕ) {r : Cutting} → r ≡ c
 unfolding cutStep
 step-passed t here x e = rw e (record { few = omega arith; short = omega arith })
 
-pub walk-passed : (t : ℕ) (pg : List ℕ) (n at : ℕ) (here : Cutting) {r : Cutting} → at ≤ length pg → r ≡ cutAfter t here (sizesOf (cellsOf n at pg)) → Passed here r n (length pg - at)
+pub walk-passed : (t : ℕ) (pg : List ℕ) (n at : ℕ) (here : Cutting) {r : Cutting} → at ≤ length pg → r ≡ cutAfter t here (sizesOf (cellsOf pg n at)) → Passed here r n (length pg - at)
 unfolding cellsOf cutAfter
 walk-passed t pg zero at here h e = rw e (record { few = omega arith; short = omega arith })
 walk-passed t pg (suc n) at here h e = rw e (by-read (cellAt pg at) refl (λ x l. walk-passed t pg n (x .next) (cutStep t here (x .next - x .at)) l refl))
   where
     by-read : (r : CellRead) → cellAt pg at ≡ r
         → ((x : Cell) → x .next ≤ length pg
-        → Passed (cutStep t here (x .next - x .at)) (cutAfter t (cutStep t here (x .next - x .at)) (sizesOf (cellsOf n (x .next) pg))) n (length pg - x .next))
-        → Passed here (cutAfter t here (sizesOf (onCell (λ x. x ∷ cellsOf n (x .next) pg) (λ kind. []) r))) (suc n) (length pg - at)
+        → Passed (cutStep t here (x .next - x .at)) (cutAfter t (cutStep t here (x .next - x .at)) (sizesOf (cellsOf pg n (x .next)))) n (length pg - x .next))
+        → Passed here (cutAfter t here (sizesOf (onCell (λ x. x ∷ cellsOf pg n (x .next)) (λ kind. []) r))) (suc n) (length pg - at)
     by-read (CellRead.Bad kind) q ih = record { few = omega arith; short = omega arith }
     by-read (CellRead.Got x) q ih =
         let f = forward pg at {r = cellAt pg at} refl q in
@@ -121,10 +121,10 @@ walk-passed t pg (suc n) at here h e = rw e (by-read (cellAt pg at) refl (λ x l
         let s = step-passed t here (x .next - x .at) refl in
         record { few = omega arith; short = omega (arith, f .up, f .here, f .within) }
 
-pub leaf-cut : (t before b after m : ℕ) (pg : List ℕ) {first there last : Cutting} → first ≡ cutAfter t uncut (sizesOf (cellsOf before 12 pg)) → there ≡ cutStep t first m
-    → last ≡ cutAfter t there (sizesOf (cellsOf after b pg)) → last .best ≡ cutLeaf t before b after m pg
+pub leaf-cut : (t before b after m : ℕ) (pg : List ℕ) {first there last : Cutting} → first ≡ cutAfter t uncut (sizesOf (cellsOf pg before 12)) → there ≡ cutStep t first m
+    → last ≡ cutAfter t there (sizesOf (cellsOf pg after b)) → last .best ≡ cutLeaf pg t before b after m
 unfolding cutLeaf cutOf cutAfter
 leaf-cut t before b after m pg {first} {there} {last} e₁ e₂ e₃ =
     ap (λ (h : Cutting). h .best)
-    {y = cutAfter t uncut (sizesOf (cellsOf before 12 pg) ++ (m ∷ sizesOf (cellsOf after b pg)))}
-    (e₃ ∙ rw (e₂, e₁) (sym (after-append t uncut (sizesOf (cellsOf before 12 pg)) (m ∷ sizesOf (cellsOf after b pg)))))
+    {y = cutAfter t uncut (sizesOf (cellsOf pg before 12) ++ (m ∷ sizesOf (cellsOf pg after b)))}
+    (e₃ ∙ rw (e₂, e₁) (sym (after-append t uncut (sizesOf (cellsOf pg before 12)) (m ∷ sizesOf (cellsOf pg after b)))))

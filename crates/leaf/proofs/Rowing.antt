@@ -35,7 +35,7 @@ body-there s at r e =
     let i : at + 17 + sl + pl ≡ at + (17 + sl + pl) = omega arith in
     rw i at e₃
 
-cells-first : (s : List ℕ) (at n : ℕ) (c : Cell) → cellAt s at ≡ CellRead.Got c → cellsOf (suc n) at s ≡ c ∷ cellsOf n (c .next) s
+cells-first : (s : List ℕ) (at n : ℕ) (c : Cell) → cellAt s at ≡ CellRead.Got c → cellsOf s (suc n) at ≡ c ∷ cellsOf s n (c .next)
 unfolding cellsOf
 cells-first s at n c e = rw e
 
@@ -52,7 +52,7 @@ rows-append [] ys = refl
 rows-append (x ∷ xs) ys = rw (rows-append xs ys) (simp append-assoc)
 
 pub rows-read : (s : List ℕ) (rs : List Row) (at : ℕ) → AllFit rs → at + length (rowsBytes rs) ≤ length s → part at (length (rowsBytes rs)) s ≡ rowsBytes rs
-    → rowsOf (length rs) at s ≡ rs
+    → rowsOf s (length rs) at ≡ rs
 unfolding cellsOf
 rows-read s [] at f h e = refl
 rows-read s (r ∷ rs) at f h e =
@@ -71,25 +71,25 @@ unfoldable pub endOf : ℕ → List Cell → ℕ
 endOf at [] = at
 endOf at (c ∷ cs) = endOf (c .next) cs
 
-end-bound : (s : List ℕ) (n at : ℕ) → at ≤ endOf at (cellsOf n at s)
+end-bound : (s : List ℕ) (n at : ℕ) → at ≤ endOf at (cellsOf s n at)
 unfolding endOf cellsOf
 end-bound s zero at = omega arith
 end-bound s (suc n) at = by-read (cellAt s at) refl (λ c. end-bound s n (c .next))
   where
-    by-read : (r : CellRead) → cellAt s at ≡ r → ((c : Cell) → c .next ≤ endOf (c .next) (cellsOf n (c .next) s))
-        → at ≤ endOf at (onCell (λ c. c ∷ cellsOf n (c .next) s) (λ kind. []) r)
+    by-read : (r : CellRead) → cellAt s at ≡ r → ((c : Cell) → c .next ≤ endOf (c .next) (cellsOf s n (c .next)))
+        → at ≤ endOf at (onCell (λ c. c ∷ cellsOf s n (c .next)) (λ kind. []) r)
     by-read (CellRead.Bad kind) e ih = omega arith
     by-read (CellRead.Got c) e ih = let p = cell-placed s at c e in omega (arith, ih c, p .past-head, p .whole)
 
 -- the bytes of the cells that are read are the rows'
-pub rows-bytes : (s : List ℕ) → AreBytes s → (n at : ℕ) → part at (endOf at (cellsOf n at s) - at) s ≡ rowsBytes (rowsOf n at s)
+pub rows-bytes : (s : List ℕ) → AreBytes s → (n at : ℕ) → part at (endOf at (cellsOf s n at) - at) s ≡ rowsBytes (rowsOf s n at)
 unfolding cellsOf endOf rowsBytes
 rows-bytes s B zero at = part-none at (at - at) s (omega arith)
 rows-bytes s B (suc n) at = by-read (cellAt s at) refl (λ c. rows-bytes s B n (c .next))
   where
     by-read : (r : CellRead) → cellAt s at ≡ r
-        → ((c : Cell) → part (c .next) (endOf (c .next) (cellsOf n (c .next) s) - c .next) s ≡ rowsBytes (rowsOf n (c .next) s))
-        → part at (endOf at (onCell (λ c. c ∷ cellsOf n (c .next) s) (λ kind. []) r) - at) s ≡ rowsBytes (map (rowOf s) (onCell (λ c. c ∷ cellsOf n (c .next) s) (λ kind. []) r))
+        → ((c : Cell) → part (c .next) (endOf (c .next) (cellsOf s n (c .next)) - c .next) s ≡ rowsBytes (rowsOf s n (c .next)))
+        → part at (endOf at (onCell (λ c. c ∷ cellsOf s n (c .next)) (λ kind. []) r) - at) s ≡ rowsBytes (map (rowOf s) (onCell (λ c. c ∷ cellsOf s n (c .next)) (λ kind. []) r))
     by-read (CellRead.Bad kind) e ih = part-none at (at - at) s (omega arith)
     by-read (CellRead.Got c) e ih =
         let p = cell-placed s at c e in
@@ -97,5 +97,5 @@ rows-bytes s B (suc n) at = by-read (cellAt s at) refl (λ c. rows-bytes s B n (
         let size = cellSize (c .version .stamp) (c .version .pointer) (c .version .len) in
         let next-is : c .next ≡ at + size = ap (λ (x : Cell). x .next) (w .place) in
         let b = end-bound s n (c .next) in
-        let split : endOf (c .next) (cellsOf n (c .next) s) - at ≡ size + (endOf (c .next) (cellsOf n (c .next) s) - c .next) = omega arith in
-        rw (split, part-add at size (endOf (c .next) (cellsOf n (c .next) s) - c .next) s, w .bytes, ← next-is, ih c)
+        let split : endOf (c .next) (cellsOf s n (c .next)) - at ≡ size + (endOf (c .next) (cellsOf s n (c .next)) - c .next) = omega arith in
+        rw (split, part-add at size (endOf (c .next) (cellsOf s n (c .next)) - c .next) s, w .bytes, ← next-is, ih c)

@@ -171,7 +171,7 @@ module _ (key : ℕ) where
 
 -- the cells before the run, in it and after it; where it stands; and the rows of the key and of the others
 pub record RunIs (pg : List ℕ) (p key : ℕ) (run : Run) (e : ℕ) (larger : Bool) : Type 0 where
-  pub judged : judgeLeaf p pg ≡ Judged.Ok e
+  pub judged : judgeLeaf pg p ≡ Judged.Ok e
   pub last : hasLarger key (cells pg) ≡ larger
   pub before : List Cell
   pub out : List Cell
@@ -190,9 +190,9 @@ pub record RunIs (pg : List ℕ) (p key : ℕ) (run : Run) (e : ℕ) (larger : B
 
 pub run-is : (pg : List ℕ) (p key e : ℕ) (run : Run) (larger : Bool) → runLeaf pg p key ≡ LeafRun.Ok run e larger → RunIs pg p key run e larger
 unfolding runLeaf
-run-is pg p key e run larger told = by-judged (judgeLeaf p pg) refl told
+run-is pg p key e run larger told = by-judged (judgeLeaf pg p) refl told
   where
-    by-judged : (j : Judged) → judgeLeaf p pg ≡ j
+    by-judged : (j : Judged) → judgeLeaf pg p ≡ j
         → onJudged (λ d. LeafRun.Ok (foldCells (running key) (record { from = 12; to = 12; count = 0 }) (cells pg)) d (hasLarger key (cells pg))) (λ f. LeafRun.Bad f) j ≡ LeafRun.Ok run e larger
         → RunIs pg p key run e larger
     by-judged (Judged.Bad f) t w = absurd (let z : _≡_ {A = ℕ} 0 1 = cc in omega arith)
@@ -231,9 +231,9 @@ run-is pg p key e run larger told = by-judged (judgeLeaf p pg) refl told
         })
 
 -- a fault is the judgement's
-pub run-bad : (pg : List ℕ) (p key : ℕ) (f : Fault) → runLeaf pg p key ≡ LeafRun.Bad f → judgeLeaf p pg ≡ Judged.Bad f
+pub run-bad : (pg : List ℕ) (p key : ℕ) (f : Fault) → runLeaf pg p key ≡ LeafRun.Bad f → judgeLeaf pg p ≡ Judged.Bad f
 unfolding runLeaf
-run-bad pg p key f told = by-judged (judgeLeaf p pg) told
+run-bad pg p key f told = by-judged (judgeLeaf pg p) told
   where
     by-judged : (j : Judged)
         → onJudged (λ d. LeafRun.Ok (foldCells (running key) (record { from = 12; to = 12; count = 0 }) (cells pg)) d (hasLarger key (cells pg))) (λ g. LeafRun.Bad g) j ≡ LeafRun.Bad f

@@ -19,13 +19,13 @@ onCell good bad (CellRead.Got c) = good c
 onCell good bad (CellRead.Bad kind) = bad kind
 
 -- n cells from `at` on, up to the first that is not readable
-unfoldable pub cellsOf : (n at : ℕ) → List ℕ → List Cell
-cellsOf zero at s = []
-cellsOf (suc n) at s = onCell (λ c. c ∷ cellsOf n (c .next) s) (λ kind. []) (cellAt s at)
+unfoldable pub cellsOf : List ℕ → (n at : ℕ) → List Cell
+cellsOf s zero at = []
+cellsOf s (suc n) at = onCell (λ c. c ∷ cellsOf s n (c .next)) (λ kind. []) (cellAt s at)
 
 -- the cells of a leaf page
 abbrev pub cells : List ℕ → List Cell
-cells pg = cellsOf (cellCount pg) headerSize pg
+cells pg = cellsOf pg (cellCount pg) headerSize
 
 -- a fold over cells, the first one first
 unfoldable pub foldCells : {A : Type 0} → (A → Cell → A) → A → List Cell → A
@@ -42,8 +42,8 @@ pub data Step : Type 0 where
   Bad : Fault → Step
 
 -- the cell at `at`, after one of key k and creator c; or its fault
-unfoldable pub stepOf : (p k c at : ℕ) → List ℕ → Step
-stepOf p k c at s =
+unfoldable pub stepOf : List ℕ → (p k c at : ℕ) → Step
+stepOf s p k c at =
     onCell (λ x. pick (inOrder k c (x .key) (x .version .creator)) (Step.Got x) (Step.Bad (structural p))) (λ kind. Step.Bad (cellFault p at kind)) (cellAt s at)
 
 abbrev pub onStep : {A : Type 0} → (Cell → A) → (Fault → A) → Step → A
@@ -51,13 +51,13 @@ onStep good ill (Step.Got x) = good x
 onStep good ill (Step.Bad f) = ill f
 
 -- n cells from `at` on, after one of key k and creator c
-unfoldable pub judgeCells : (p k c n at : ℕ) → List ℕ → Judged
-judgeCells p k c zero at s = Judged.Ok at
-judgeCells p k c (suc n) at s = onStep (λ x. judgeCells p (x .key) (x .version .creator) n (x .next) s) (λ f. Judged.Bad f) (stepOf p k c at s)
+unfoldable pub judgeCells : List ℕ → (p k c n at : ℕ) → Judged
+judgeCells s p k c zero at = Judged.Ok at
+judgeCells s p k c (suc n) at = onStep (λ x. judgeCells s p (x .key) (x .version .creator) n (x .next)) (λ f. Judged.Bad f) (stepOf s p k c at)
 
 -- page p with the bytes pg; no rank and no creator is below 0
-unfoldable pub judgeLeaf : ℕ → List ℕ → Judged
-judgeLeaf p pg = pick (eqb (nodeType pg) nodeLeaf) (judgeCells p 0 0 (cellCount pg) headerSize pg) (Judged.Bad (structural p))
+unfoldable pub judgeLeaf : List ℕ → ℕ → Judged
+judgeLeaf pg p = pick (eqb (nodeType pg) nodeLeaf) (judgeCells pg p 0 0 (cellCount pg) headerSize) (Judged.Bad (structural p))
 
 abbrev pub onJudged : {A : Type 0} → (ℕ → A) → (Fault → A) → Judged → A
 onJudged good bad (Judged.Ok e) = good e

@@ -30,7 +30,7 @@ newest p key sn st best c =
 -- the best after this leaf, and whether the leaf holds a larger key, so that the search ends here
 unfoldable pub findLeaf : List ℕ → (p key : ℕ) → Snapshot → (ℕ → ℕ) → Best → LeafBest
 findLeaf pg p key sn st best =
-    onJudged (λ e. LeafBest.Ok (foldCells (newest p key sn st) best (cells pg)) (hasLarger key (cells pg))) (λ f. LeafBest.Bad f) (judgeLeaf p pg)
+    onJudged (λ e. LeafBest.Ok (foldCells (newest p key sn st) best (cells pg)) (hasLarger key (cells pg))) (λ f. LeafBest.Bad f) (judgeLeaf pg p)
 
 -- the conflict test of one version: the ported one, or claim's own
 abbrev pub testOf : Snapshot → (ℕ → ℕ) → (claiming : Bool) → (seen creator : ℕ) → Stamp → Bool
@@ -43,7 +43,7 @@ joined key sn st claiming seen found c =
 
 unfoldable pub testLeaf : List ℕ → (p key : ℕ) → Snapshot → (ℕ → ℕ) → (claiming : Bool) → (seen : ℕ) → Bool → LeafTest
 testLeaf pg p key sn st claiming seen found =
-    onJudged (λ e. LeafTest.Ok (foldCells (joined key sn st claiming seen) found (cells pg)) (hasLarger key (cells pg))) (λ f. LeafTest.Bad f) (judgeLeaf p pg)
+    onJudged (λ e. LeafTest.Ok (foldCells (joined key sn st claiming seen) found (cells pg)) (hasLarger key (cells pg))) (λ f. LeafTest.Bad f) (judgeLeaf pg p)
 
 -- the run of a key's cells, which stand together: where it starts and ends, and how many they are. Cells of a smaller key
 -- move both ends.
@@ -57,4 +57,4 @@ running key here c = runPast key here (c .key) (c .next)
 
 unfoldable pub runLeaf : List ℕ → (p key : ℕ) → LeafRun
 runLeaf pg p key =
-    onJudged (λ e. LeafRun.Ok (foldCells (running key) (record { from = headerSize; to = headerSize; count = 0 }) (cells pg)) e (hasLarger key (cells pg))) (λ f. LeafRun.Bad f) (judgeLeaf p pg)
+    onJudged (λ e. LeafRun.Ok (foldCells (running key) (record { from = headerSize; to = headerSize; count = 0 }) (cells pg)) e (hasLarger key (cells pg))) (λ f. LeafRun.Bad f) (judgeLeaf pg p)

@@ -46,10 +46,10 @@ LookupChooses =
 
 -- a judgement's yes is the same for any page number
 abbrev pub AnyPage : Type 0
-AnyPage = (p q e : ℕ) (pg : List ℕ) → judgeLeaf p pg ≡ Judged.Ok e → judgeLeaf q pg ≡ Judged.Ok e
+AnyPage = (p q e : ℕ) (pg : List ℕ) → judgeLeaf pg p ≡ Judged.Ok e → judgeLeaf pg q ≡ Judged.Ok e
 
 -- the cells of a run are exactly the key's, in their order
 abbrev pub RunIsKeys : Type 0
 RunIsKeys =
     (pg : List ℕ) (p key e : ℕ) (run : Run) (larger : Bool) → runLeaf pg p key ≡ LeafRun.Ok run e larger
-    → rowsOf (run .count) (run .from) pg ≡ only (ofKey key) (rows pg)
+    → rowsOf pg (run .count) (run .from) ≡ only (ofKey key) (rows pg)

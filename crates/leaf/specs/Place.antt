@@ -26,7 +26,7 @@ placeOf k c cs = foldCells (placeStep k c) (record { at = headerSize; before = 0
 
 -- the place in page p, after its judgement, and where its cells end
 unfoldable pub placeLeaf : List ℕ → (p k c : ℕ) → LeafPlace
-placeLeaf pg p k c = onJudged (λ e. LeafPlace.Ok (placeOf k c (cells pg)) e) (λ f. LeafPlace.Bad f) (judgeLeaf p pg)
+placeLeaf pg p k c = onJudged (λ e. LeafPlace.Ok (placeOf k c (cells pg)) e) (λ f. LeafPlace.Bad f) (judgeLeaf pg p)
 
 -- the larger side of a cut, of t bytes in all
 abbrev pub largerSide : ℕ → Cut → ℕ
@@ -59,8 +59,8 @@ abbrev pub sizesOf : List Cell → List ℕ
 sizesOf cs = map (λ c. c .next - c .at) cs
 
 -- of a leaf, t bytes in all, in which a cell of m bytes stands after the first `before` cells, and `after` cells follow from b on
-unfoldable pub cutLeaf : (t before b after m : ℕ) → List ℕ → Cut
-cutLeaf t before b after m pg = cutOf t (sizesOf (cellsOf before headerSize pg) ++ (m ∷ sizesOf (cellsOf after b pg)))
+unfoldable pub cutLeaf : List ℕ → (t before b after m : ℕ) → Cut
+cutLeaf pg t before b after m = cutOf t (sizesOf (cellsOf pg before headerSize) ++ (m ∷ sizesOf (cellsOf pg after b)))
 
 -- both sides hold cells and fit a page; otherwise the leaf is Undividable
 unfoldable pub cutFits : ℕ → Cut → Bool

@@ -13,7 +13,7 @@ use Rattle.leaf.specs.declared.Judged.{Judged}
 pub record Sound (pg : List ℕ) (e : ℕ) : Type 0 where
   pub bytes : AreBytes pg
   pub whole : length pg ≡ 4096
-  pub judged : judgeLeaf 0 pg ≡ Judged.Ok e
+  pub judged : judgeLeaf pg 0 ≡ Judged.Ok e
 
 -- rows that are written are read back, and the header's other fields stay
 abbrev pub RowsAreRead : Type 0

@@ -46,12 +46,12 @@ rowOf s c =
       body = part (c .version .start) (c .version .len) s;
     }
 
-abbrev pub rowsOf : (n at : ℕ) → List ℕ → List Row
-rowsOf n at s = map (rowOf s) (cellsOf n at s)
+abbrev pub rowsOf : List ℕ → (n at : ℕ) → List Row
+rowsOf s n at = map (rowOf s) (cellsOf s n at)
 
 -- the rows of a leaf page
 abbrev pub rows : List ℕ → List Row
-rows pg = rowsOf (cellCount pg) headerSize pg
+rows pg = rowsOf pg (cellCount pg) headerSize
 
 abbrev pub rowSize : Row → ℕ
 rowSize r = cellSize (r .stamp) (r .pointer) (length (r .body))

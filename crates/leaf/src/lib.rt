@@ -47,7 +47,7 @@ pub fn cell_fault(p: u32, at: usize, kind: u8) -> Fault
 // Where the cell at `at` ends, after one of key k and creator c; 0 where it is no cell or not in order. Every walk over
 // a leaf goes by this, so that it judges as it reads; a cell is read whole only where more of it is asked.
 pub fn next_end(pg: &[u8], k: u32, c: u64, at: usize) -> usize
-    ensures { λ r. ⌜ r ≡ stepEnd k c at (now (pg .entry)) ⌝ }
+    ensures { λ r. ⌜ r ≡ stepEnd (now (pg .entry)) k c at ⌝ }
 {
     let end = row::read::cell_end(pg, at);
     if end == 0 {
@@ -67,7 +67,7 @@ pub fn next_end(pg: &[u8], k: u32, c: u64, at: usize) -> usize
 // The fault at which a walk ends.
 pub fn fault_at(pg: &[u8], p: u32, at: usize) -> Fault
     requires { ⌜ at < 65536 ⌝ }
-    ensures { λ r. ⌜ r ≡ stepFault p at (now (pg .entry)) ⌝ }
+    ensures { λ r. ⌜ r ≡ stepFault (now (pg .entry)) p at ⌝ }
 {
     match row::read::read_cell(pg, at) {
         row::read::CellRead::Bad(kind) => cell_fault(p, at, kind),
@@ -77,7 +77,7 @@ pub fn fault_at(pg: &[u8], p: u32, at: usize) -> Fault
 
 fn judge_cells(pg: &[u8], p: u32, n: usize) -> Judged
     requires { ⌜ length (now pg) ≡ 4096 ⌝ }
-    ensures { λ r. ⌜ r ≡ judgeCells p 0 0 n 12 (now (pg .entry)) ⌝ }
+    ensures { λ r. ⌜ r ≡ judgeCells (now (pg .entry)) p 0 0 n 12 ⌝ }
 {
     let mut at = page::HEADER_SIZE;
     let mut left = n;
@@ -99,7 +99,7 @@ fn judge_cells(pg: &[u8], p: u32, n: usize) -> Judged
 // Where the cells of page p end, if it is a leaf with readable cells in order; otherwise its first fault.
 pub fn judge_leaf(pg: &[u8], p: u32) -> Judged
     requires { ⌜ length (now pg) ≡ 4096 ⌝ }
-    ensures { λ r. ⌜ r ≡ judgeLeaf p (now (pg .entry)) ⌝ }
+    ensures { λ r. ⌜ r ≡ judgeLeaf (now (pg .entry)) p ⌝ }
 {
     if page::get_node_type(pg) != page::NODE_LEAF {
         return Judged::Bad(row::structural_fault(p));

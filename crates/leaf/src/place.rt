@@ -109,7 +109,7 @@ fn cut_step(t: usize, here: Cutting, x: usize) -> Cutting
 // Past n cells of the page from `from` on.
 fn cut_cells(pg: &[u8], t: usize, start: Cutting, n: usize, from: usize) -> Cutting
     requires { ⌜ (length (now pg) ≡ 4096) × (from ≤ 4096) × (n < 32768) × (start .left .cells < 32768) × (start .left .bytes < 32768) ⌝ }
-    ensures { λ r. ⌜ r ≡ cutAfter t start (sizesOf (cellsOf n from (now (pg .entry)))) ⌝ }
+    ensures { λ r. ⌜ r ≡ cutAfter t start (sizesOf (cellsOf (now (pg .entry)) n from)) ⌝ }
 {
     let mut left = n;
     let mut at = from;
@@ -128,7 +128,7 @@ fn cut_cells(pg: &[u8], t: usize, start: Cutting, n: usize, from: usize) -> Cutt
 // Of a leaf, t bytes in all, in which a cell of m bytes stands after the first cells, and others follow from b on.
 pub fn cut_leaf(pg: &[u8], t: usize, before: usize, b: usize, after: usize, m: usize) -> Cut
     requires { ⌜ (length (now pg) ≡ 4096) × (b ≤ 4096) × (before < 16384) × (after < 16384) × (m ≤ 4096) ⌝ }
-    ensures { λ r. ⌜ r ≡ cutLeaf t before b after m (now (pg .entry)) ⌝ }
+    ensures { λ r. ⌜ r ≡ cutLeaf (now (pg .entry)) t before b after m ⌝ }
 {
     let none = Cut { cells: 0, bytes: 0 };
     let first = cut_cells(

@@ -154,10 +154,10 @@ module _ (p q : ℕ) (x y s : List ℕ) (less : p < q) (fits : q * 4096 + 4096 �
   fits-p : p * 4096 + 4096 ≤ length (setPage q y s)
   fits-p = omega (arith, length-setPage q y s fits ly)
 
-  pub both-left : page p (setPage p x (setPage q y s)) ≡ x
+  pub both-left : page (setPage p x (setPage q y s)) p ≡ x
   both-left = page-setPage p x (setPage q y s) fits-p lx
 
-  pub both-right : page q (setPage p x (setPage q y s)) ≡ y
+  pub both-right : page (setPage p x (setPage q y s)) q ≡ y
   both-right = page-setPage-other p x (setPage q y s) fits-p lx q (λ e. omega arith) ∙ page-setPage q y s fits ly
 
   pub left-again : (z : List ℕ) → setPage p z (setPage p x (setPage q y s)) ≡ setPage p z (setPage q y s)
@@ -181,58 +181,58 @@ module _ (p q : ℕ) (x y s : List ℕ) (less : p < q) (fits : q * 4096 + 4096 �
 
 -- counts k and r, and the links
 abbrev pub linked : (p q k r : ℕ) → List ℕ → List ℕ
-linked p q k r s = setPage p (withNextLeaf q (withCount k (page p s))) (setPage q (withNextLeaf (nextLeaf (page p s)) (withCount r (page q s))) s)
+linked p q k r s = setPage p (withNextLeaf q (withCount k (page s p))) (setPage q (withNextLeaf (nextLeaf (page s p)) (withCount r (page s q))) s)
 
 -- what page p keeps, and what moves to page q
 abbrev pub kept : (p c : ℕ) → List ℕ → List ℕ
-kept p c s = pad 4096 (part 0 c (page p s))
+kept p c s = pad 4096 (part 0 c (page s p))
 
 abbrev pub movedOver : (p q c e : ℕ) → List ℕ → List ℕ
-movedOver p q c e s = pad 4096 (part 0 12 (withNodeType 1 (page q s)) ++ part c (e - c) (page p s))
+movedOver p q c e s = pad 4096 (part 0 12 (withNodeType 1 (page s q)) ++ part c (e - c) (page s p))
 
 abbrev pub parted : (p q c e : ℕ) → List ℕ → List ℕ
 parted p q c e s = setPage p (kept p c s) (setPage q (movedOver p q c e s) s)
 
 module _ (p q c e : ℕ) (s : List ℕ) (less : p < q) (fits : q * 4096 + 4096 ≤ length s) where
-  len-q : length (page q s) ≡ 4096
+  len-q : length (page s q) ≡ 4096
   len-q = length-page q s fits
 
-  len-p : length (page p s) ≡ 4096
+  len-p : length (page s p) ≡ 4096
   len-p = length-page p s (omega arith)
 
   -- a fresh page that has become a leaf
-  fresh-zeros : (n : ℕ) → n ≡ 4096 → page q s ≡ zeros n → part 12 (n - 12) (withNodeType 1 (page q s)) ≡ zeros (n - 12)
+  fresh-zeros : (n : ℕ) → n ≡ 4096 → page s q ≡ zeros n → part 12 (n - 12) (withNodeType 1 (page s q)) ≡ zeros (n - 12)
   fresh-zeros n i z =
-      rw (putAt-put 1 0 1 (page q s) (omega (arith, len-q)), part-put-above 0 (bytesLE 1 1) (page q s) (omega arith) 12 (n - 12) (rw length-bytesLE (omega arith)))
+      rw (putAt-put 1 0 1 (page s q) (omega (arith, len-q)), part-put-above 0 (bytesLE 1 1) (page s q) (omega arith) 12 (n - 12) (rw length-bytesLE (omega arith)))
       (ap (part 12 (n - 12)) z ∙ part-zeros 12 (n - 12) n (omega arith))
 
-  len-leaf : length (withNodeType 1 (page q s)) ≡ 4096
-  len-leaf = length-putAt 1 (page q s) 0 1 ∙ len-q
+  len-leaf : length (withNodeType 1 (page s q)) ≡ 4096
+  len-leaf = length-putAt 1 (page s q) 0 1 ∙ len-q
 
   module _ (in₀ : 12 ≤ c) (in₁ : c ≤ e) (in₂ : e ≤ 4096) where
     length-kept : length (kept p c s) ≡ 4096
-    length-kept = length-pad 4096 (part 0 c (page p s)) (rw (length-part 0 c (page p s) (omega (arith, len-p))) (omega arith))
+    length-kept = length-pad 4096 (part 0 c (page s p)) (rw (length-part 0 c (page s p) (omega (arith, len-p))) (omega arith))
 
     length-moved : length (movedOver p q c e s) ≡ 4096
     length-moved =
-        length-pad 4096 (part 0 12 (withNodeType 1 (page q s)) ++ part c (e - c) (page p s))
-        (rw (length-append, length-part 0 12 (withNodeType 1 (page q s)) (omega (arith, len-leaf)), length-part c (e - c) (page p s) (omega (arith, len-p))) (omega arith))
+        length-pad 4096 (part 0 12 (withNodeType 1 (page s q)) ++ part c (e - c) (page s p))
+        (rw (length-append, length-part 0 12 (withNodeType 1 (page s q)) (omega (arith, len-leaf)), length-part c (e - c) (page s p) (omega (arith, len-p))) (omega arith))
 
-    pub part-done : {s₁ s₂ s₃ : List ℕ} → page q s ≡ zeros 4096 → s₁ ≡ putAt 1 s (q * 4096) 1 → s₂ ≡ put (q * 4096 + 12) (part (p * 4096 + c) (e - c) s₁) s₁
+    pub part-done : {s₁ s₂ s₃ : List ℕ} → page s q ≡ zeros 4096 → s₁ ≡ putAt 1 s (q * 4096) 1 → s₂ ≡ put (q * 4096 + 12) (part (p * 4096 + c) (e - c) s₁) s₁
         → s₃ ≡ put (p * 4096 + c) (zeros (p * 4096 + 4096 - (p * 4096 + c))) s₂ → s₃ ≡ parted p q c e s
     part-done {s₁} {s₂} {s₃} z f g k =
-        let leaf = withNodeType 1 (page q s) in
-        let t = part c (e - c) (page p s) in
+        let leaf = withNodeType 1 (page s q) in
+        let t = part c (e - c) (page s p) in
         let i : q * 4096 + 0 ≡ q * 4096 = omega arith in
         let f₁ : s₁ ≡ setPage q leaf s = f ∙ rw i at (putAt-page 1 q s 0 1 fits (omega arith)) in
-        let lt : length t ≡ e - c = length-part c (e - c) (page p s) (omega (arith, len-p)) in
+        let lt : length t ≡ e - c = length-part c (e - c) (page s p) (omega (arith, len-p)) in
         let l₁ : length (setPage q leaf s) ≡ length s = length-setPage q leaf s fits len-leaf in
-        let p₁ : page p (setPage q leaf s) ≡ page p s = page-setPage-other q leaf s fits len-leaf p (λ o. omega arith) in
+        let p₁ : page (setPage q leaf s) p ≡ page s p = page-setPage-other q leaf s fits len-leaf p (λ o. omega arith) in
         let t₁ : part (p * 4096 + c) (e - c) (setPage q leaf s) ≡ t = part-page p c (e - c) (setPage q leaf s) (omega arith) ∙ ap (part c (e - c)) p₁ in
         let g₁ : s₂ ≡ setPage q (movedOver p q c e s) s
         = g ∙ rw (f₁, t₁, put-page q 12 t (setPage q leaf s) (omega arith) (omega arith), page-setPage q leaf s fits len-leaf, setPage-setPage q leaf (put 12 t leaf) s fits len-leaf, put-fresh 4096 12 t leaf len-leaf (omega arith) (fresh-zeros 4096 refl z)) in
         let l₂ : length (setPage q (movedOver p q c e s) s) ≡ length s = length-setPage q (movedOver p q c e s) s fits length-moved in
-        let p₂ : page p (setPage q (movedOver p q c e s) s) ≡ page p s = page-setPage-other q (movedOver p q c e s) s fits length-moved p (λ o. omega arith) in
+        let p₂ : page (setPage q (movedOver p q c e s) s) p ≡ page s p = page-setPage-other q (movedOver p q c e s) s fits length-moved p (λ o. omega arith) in
         let j : p * 4096 + 4096 - (p * 4096 + c) ≡ 4096 - c = omega arith in
         k
         ∙ rw (
@@ -240,15 +240,15 @@ module _ (p q c e : ℕ) (s : List ℕ) (less : p < q) (fits : q * 4096 + 4096 �
           j,
           put-page p c (zeros (4096 - c)) (setPage q (movedOver p q c e s) s) (omega arith) (rw length-replicate (omega arith)),
           p₂,
-          put-zeros 4096 c (page p s) len-p (omega arith),
+          put-zeros 4096 c (page s p) len-p (omega arith),
         )
 
 -- count and link of a page, stored in the pool
 two-fields : (p k v : ℕ) (s : List ℕ) → p * 4096 + 4096 ≤ length s
-    → putAt 4 (putAt 2 s (p * 4096 + 6) k) (p * 4096 + 8) v ≡ setPage p (withNextLeaf v (withCount k (page p s))) s
+    → putAt 4 (putAt 2 s (p * 4096 + 6) k) (p * 4096 + 8) v ≡ setPage p (withNextLeaf v (withCount k (page s p))) s
 two-fields p k v s fits =
-    let x = withCount k (page p s) in
-    let lx : length x ≡ 4096 = length-putAt 2 (page p s) 6 k ∙ length-page p s fits in
+    let x = withCount k (page s p) in
+    let lx : length x ≡ 4096 = length-putAt 2 (page s p) 6 k ∙ length-page p s fits in
     rw (
       putAt-page 2 p s 6 k fits (omega arith),
       putAt-page 4 p (setPage p x s) 8 v (omega (arith, length-setPage p x s fits lx)) (omega arith),
@@ -260,10 +260,10 @@ pub link-done : (p q k r : ℕ) (s : List ℕ) {s₁ s₂ s₃ s₄ : List ℕ} 
     → next ≡ leAt 4 s₁ (p * 4096 + 8) → s₂ ≡ putAt 4 s₁ (q * 4096 + 8) next → s₃ ≡ putAt 2 s₂ (p * 4096 + 6) k → s₄ ≡ putAt 4 s₃ (p * 4096 + 8) q
     → s₄ ≡ linked p q k r s
 link-done p q k r s {s₁} {s₂} {s₃} {s₄} {next} less fits e₁ e₂ e₃ e₄ e₅ =
-    let y = withNextLeaf (nextLeaf (page p s)) (withCount r (page q s)) in
-    let ly : length y ≡ 4096 = length-putAt 4 (withCount r (page q s)) 8 (nextLeaf (page p s)) ∙ length-putAt 2 (page q s) 6 r ∙ length-page q s fits in
-    let n : next ≡ nextLeaf (page p s) = e₂ ∙ rw (e₁, leAt-putAt-below 4 2 s (q * 4096 + 6) r (p * 4096 + 8) (omega arith)) (leAt-page 4 p s 8 (omega arith)) in
-    let f : s₂ ≡ setPage q y s = e₃ ∙ rw (e₁, n) (two-fields q r (nextLeaf (page p s)) s fits) in
+    let y = withNextLeaf (nextLeaf (page s p)) (withCount r (page s q)) in
+    let ly : length y ≡ 4096 = length-putAt 4 (withCount r (page s q)) 8 (nextLeaf (page s p)) ∙ length-putAt 2 (page s q) 6 r ∙ length-page q s fits in
+    let n : next ≡ nextLeaf (page s p) = e₂ ∙ rw (e₁, leAt-putAt-below 4 2 s (q * 4096 + 6) r (p * 4096 + 8) (omega arith)) (leAt-page 4 p s 8 (omega arith)) in
+    let f : s₂ ≡ setPage q y s = e₃ ∙ rw (e₁, n) (two-fields q r (nextLeaf (page s p)) s fits) in
     e₅
     ∙ rw (e₄, f, two-fields p k q (setPage q y s) (omega (arith, length-setPage q y s fits ly)), page-setPage-other q y s fits ly p (λ o. omega arith))
 
@@ -271,41 +271,41 @@ link-done p q k r s {s₁} {s₂} {s₃} {s₄} {next} less fits e₁ e₂ e₃ 
 
 module _ (p q n a b e : ℕ) (cut : Cut) (x s : List ℕ) (less : p < q) (fits : q * 4096 + 4096 ≤ length s) (in₀ : 12 ≤ a) (in₁ : a ≤ b) (in₂ : b ≤ e) (in₃ : e ≤ 4096)
     (left-fits : 12 + cut .bytes ≤ 4096) (right-fits : a + length x + (e - b) ≤ 4096 + cut .bytes) (inside : 12 + cut .bytes ≤ a + length x + (e - b)) where
-  in-page : e ≤ length (page p s)
+  in-page : e ≤ length (page s p)
   in-page = omega (arith, len-p p q 0 0 s less fits)
 
   -- the leaf as it would be, and its sides
   abbrev overfull : List ℕ
-  overfull = spliced a b e x (page p s)
+  overfull = spliced a b e x (page s p)
 
   length-overfull : length overfull ≡ a + length x + (e - b)
-  length-overfull = length-spliced a b e x (page p s) in₁ in₂ in-page
+  length-overfull = length-spliced a b e x (page s p) in₁ in₂ in-page
 
   abbrev leftSide : List ℕ
   leftSide = pad 4096 (part 0 (12 + cut .bytes) overfull)
 
   abbrev rightSide : List ℕ
-  rightSide = pad 4096 (part 0 12 (withNodeType 1 (page q s)) ++ part (12 + cut .bytes) (length overfull - (12 + cut .bytes)) overfull)
+  rightSide = pad 4096 (part 0 12 (withNodeType 1 (page s q)) ++ part (12 + cut .bytes) (length overfull - (12 + cut .bytes)) overfull)
 
   length-left : length leftSide ≡ 4096
   length-left = length-pad 4096 (part 0 (12 + cut .bytes) overfull) (rw (length-part 0 (12 + cut .bytes) overfull (omega (arith, length-overfull))) (omega arith))
 
   length-right : length rightSide ≡ 4096
   length-right =
-      length-pad 4096 (part 0 12 (withNodeType 1 (page q s)) ++ part (12 + cut .bytes) (length overfull - (12 + cut .bytes)) overfull)
+      length-pad 4096 (part 0 12 (withNodeType 1 (page s q)) ++ part (12 + cut .bytes) (length overfull - (12 + cut .bytes)) overfull)
       (rw (
         length-append,
-        length-part 0 12 (withNodeType 1 (page q s)) (omega (arith, len-leaf p q 0 0 s less fits)),
+        length-part 0 12 (withNodeType 1 (page s q)) (omega (arith, len-leaf p q 0 0 s less fits)),
         length-part (12 + cut .bytes) (length overfull - (12 + cut .bytes)) overfull (omega (arith, length-overfull)),
       )
       (omega (arith, length-overfull)))
 
   -- bytes 8 to 11 are those of page p
-  next-same : nextLeaf leftSide ≡ nextLeaf (page p s)
+  next-same : nextLeaf leftSide ≡ nextLeaf (page s p)
   next-same =
-      leAt-same 4 8 8 leftSide (page p s)
+      leAt-same 4 8 8 leftSide (page s p)
       (moved 4096 0 0 (12 + cut .bytes) [] overfull refl (omega (arith, length-overfull)) 8 8 4 (omega arith) (omega arith) (omega arith)
-      ∙ spliced-before a b e x (page p s) in₁ in₂ in-page 8 4 (omega arith))
+      ∙ spliced-before a b e x (page s p) in₁ in₂ in-page 8 4 (omega arith))
 
   -- both sides with counts and links
   sides-linked : {s₂ s₃ : List ℕ} → s₂ ≡ setPage p leftSide (setPage q rightSide s)
@@ -313,8 +313,8 @@ module _ (p q n a b e : ℕ) (cut : Cut) (x s : List ℕ) (less : p < q) (fits :
       → s₃ ≡ divided p q n cut overfull s
   unfolding divided leftLeaf rightLeaf
   sides-linked e₂ e₃ =
-      let y = withNextLeaf (nextLeaf (page p s)) (withCount (n - cut .cells) rightSide) in
-      let ly : length y ≡ 4096 = length-putAt 4 (withCount (n - cut .cells) rightSide) 8 (nextLeaf (page p s)) ∙ length-putAt 2 rightSide 6 (n - cut .cells) ∙ length-right in
+      let y = withNextLeaf (nextLeaf (page s p)) (withCount (n - cut .cells) rightSide) in
+      let ly : length y ≡ 4096 = length-putAt 4 (withCount (n - cut .cells) rightSide) 8 (nextLeaf (page s p)) ∙ length-putAt 2 rightSide 6 (n - cut .cells) ∙ length-right in
       e₃
       ∙ rw (
         e₂,
@@ -328,7 +328,7 @@ module _ (p q n a b e : ℕ) (cut : Cut) (x s : List ℕ) (less : p < q) (fits :
   -- the edit done on the right side, or on the left
   pub right-done : {s₁ y s₃ : List ℕ} (a′ b′ e′ : ℕ) → 12 + cut .bytes ≤ a → a′ + cut .bytes ≡ a → b′ + cut .bytes ≡ b → e′ + cut .bytes ≡ e
       → s₁ ≡ parted p q (12 + cut .bytes) e s
-      → y ≡ pad 4096 (spliced a′ b′ e′ x (page q s₁))
+      → y ≡ pad 4096 (spliced a′ b′ e′ x (page s₁ q))
       → s₃ ≡ linked p q (cut .cells) (n - cut .cells) (setPage q y s₁)
       → s₃ ≡ divided p q n cut overfull s
   right-done {s₁} {y} {s₃} a′ b′ e′ h ea eb ee e₁ f e₃ =
@@ -337,18 +337,18 @@ module _ (p q n a b e : ℕ) (cut : Cut) (x s : List ℕ) (less : p < q) (fits :
       let m = movedOver p q c e s in
       let lk = length-kept p q c e s less fits (omega arith) (omega arith) in₃ in
       let lm = length-moved p q c e s less fits (omega arith) (omega arith) in₃ in
-      let hd = part 0 12 (withNodeType 1 (page q s)) in
-      let lh : length hd ≡ 12 = length-part 0 12 (withNodeType 1 (page q s)) (omega (arith, len-leaf p q 0 0 s less fits)) in
+      let hd = part 0 12 (withNodeType 1 (page s q)) in
+      let lh : length hd ≡ 12 = length-part 0 12 (withNodeType 1 (page s q)) (omega (arith, len-leaf p q 0 0 s less fits)) in
       let f₁ : y ≡ rightSide
-      = f ∙ rw (e₁, both-right p q k m s less fits lk lm, right-edited a b e c x (page p s) in₁ in₂ in-page 4096 12 hd a′ b′ e′ lh h (omega arith) (omega arith) (omega arith)) in
-      let k₁ : k ≡ leftSide = sym (ap (pad 4096) (right-kept a b e c x (page p s) in₁ in₂ in-page h)) in
+      = f ∙ rw (e₁, both-right p q k m s less fits lk lm, right-edited a b e c x (page s p) in₁ in₂ in-page 4096 12 hd a′ b′ e′ lh h (omega arith) (omega arith) (omega arith)) in
+      let k₁ : k ≡ leftSide = sym (ap (pad 4096) (right-kept a b e c x (page s p) in₁ in₂ in-page h)) in
       let e₂ : setPage q y s₁ ≡ setPage p leftSide (setPage q rightSide s)
       = rw (f₁, e₁, right-again p q k m s less fits lk lm rightSide length-right, k₁) in
       sides-linked e₂ e₃
 
   pub left-done : {s₁ y s₃ : List ℕ} (c : ℕ) → b ≤ c → c ≤ e → 12 + cut .bytes + b ≡ a + length x + c
       → s₁ ≡ parted p q c e s
-      → y ≡ pad 4096 (spliced a b c x (page p s₁))
+      → y ≡ pad 4096 (spliced a b c x (page s₁ p))
       → s₃ ≡ linked p q (cut .cells) (n - cut .cells) (setPage p y s₁)
       → s₃ ≡ divided p q n cut overfull s
   left-done {s₁} {y} {s₃} c h₀ h₁ ec e₁ f e₃ =
@@ -356,10 +356,10 @@ module _ (p q n a b e : ℕ) (cut : Cut) (x s : List ℕ) (less : p < q) (fits :
       let m = movedOver p q c e s in
       let lk = length-kept p q c e s less fits (omega arith) (omega arith) in₃ in
       let lm = length-moved p q c e s less fits (omega arith) (omega arith) in₃ in
-      let hd = part 0 12 (withNodeType 1 (page q s)) in
+      let hd = part 0 12 (withNodeType 1 (page s q)) in
       let f₁ : y ≡ leftSide
-      = f ∙ rw (e₁, both-left p q k m s less fits lk lm, left-edited a b e (12 + cut .bytes) x (page p s) in₁ in₂ in-page c h₀ h₁ ec 4096) in
-      let m₁ : m ≡ rightSide = sym (ap (λ (z : List ℕ). pad 4096 (hd ++ z)) (left-moved a b e (12 + cut .bytes) x (page p s) in₁ in₂ in-page c h₀ h₁ ec)) in
+      = f ∙ rw (e₁, both-left p q k m s less fits lk lm, left-edited a b e (12 + cut .bytes) x (page s p) in₁ in₂ in-page c h₀ h₁ ec 4096) in
+      let m₁ : m ≡ rightSide = sym (ap (λ (z : List ℕ). pad 4096 (hd ++ z)) (left-moved a b e (12 + cut .bytes) x (page s p) in₁ in₂ in-page c h₀ h₁ ec)) in
       let e₂ : setPage p y s₁ ≡ setPage p leftSide (setPage q rightSide s)
       = rw (f₁, e₁, left-again p q k m s less fits lk lm leftSide, m₁) in
       sides-linked e₂ e₃
@@ -367,53 +367,53 @@ module _ (p q n a b e : ℕ) (cut : Cut) (x s : List ℕ) (less : p < q) (fits :
 -- ---- a stamp
 
 module _ (p q n e d : ℕ) (cut : Cut) (c : Cell) (s : List ℕ) (less : p < q) (fits : q * 4096 + 4096 ≤ length s) (B : AreBytes s)
-    (got : cellAt (page p s) (c .at) ≡ CellRead.Got c) (live : c .version .stamp ≡ Stamp.Absent) (in₀ : 12 ≤ c .at) (in₁ : c .next ≤ e) (in₂ : e ≤ 4096) where
+    (got : cellAt (page s p) (c .at) ≡ CellRead.Got c) (live : c .version .stamp ≡ Stamp.Absent) (in₀ : 12 ≤ c .at) (in₁ : c .next ≤ e) (in₂ : e ≤ 4096) where
   abbrev stamped : List ℕ
-  stamped = cellBytes (c .key) (c .version .creator) (Stamp.By d) (c .version .pointer) (bodyOf c (page p s))
+  stamped = cellBytes (c .key) (c .version .creator) (Stamp.By d) (c .version .pointer) (bodyOf c (page s p))
 
   abbrev size : ℕ
-  size = cellSize Stamp.Absent (c .version .pointer) (length (bodyOf c (page p s)))
+  size = cellSize Stamp.Absent (c .version .pointer) (length (bodyOf c (page s p)))
 
   ends : c .next ≡ c .at + size
-  ends = cell-ends c (page p s) (bytes-page p s B) got live
+  ends = cell-ends c (page s p) (bytes-page p s B) got live
 
   grows : length stamped ≡ size + 8
-  grows = length-cell (c .key) (c .version .creator) (Stamp.By d) (c .version .pointer) (bodyOf c (page p s)) ∙ omega arith
+  grows = length-cell (c .key) (c .version .creator) (Stamp.By d) (c .version .pointer) (bodyOf c (page s p)) ∙ omega arith
 
   pub stamp-right-done : {s₁ y s₃ : List ℕ} (a′ e′ m : ℕ) → 12 + cut .bytes ≤ c .at → e + 8 ≤ 4096 + cut .bytes → a′ + cut .bytes ≡ c .at → e′ + cut .bytes ≡ e → m ≡ c .next - c .at
       → s₁ ≡ parted p q (12 + cut .bytes) e s
-      → y ≡ grown a′ e′ m d (page q s₁)
+      → y ≡ grown a′ e′ m d (page s₁ q)
       → s₃ ≡ linked p q (cut .cells) (n - cut .cells) (setPage q y s₁)
-      → s₃ ≡ divided p q n cut (spliced (c .at) (c .next) e stamped (page p s)) s
+      → s₃ ≡ divided p q n cut (spliced (c .at) (c .next) e stamped (page s p)) s
   stamp-right-done {s₁} {y} {s₃} a′ e′ m h h₁ ea ee em e₁ f e₃ =
       let u = ends in
       let w = grows in
       let lm = length-moved p q (12 + cut .bytes) e s less fits (omega arith) (omega arith) in₂ in
       let lk = length-kept p q (12 + cut .bytes) e s less fits (omega arith) (omega arith) in₂ in
       let r = both-right p q (kept p (12 + cut .bytes) s) (movedOver p q (12 + cut .bytes) e s) s less fits lk lm in
-      let q₁ : page q s₁ ≡ movedOver p q (12 + cut .bytes) e s = ap (page q) e₁ ∙ r in
-      let hd = part 0 12 (withNodeType 1 (page q s)) in
-      let lh : length hd ≡ 12 = length-part 0 12 (withNodeType 1 (page q s)) (omega (arith, len-leaf p q 0 0 s less fits)) in
-      let there : part a′ size (page q s₁) ≡ cellBytes (c .key) (c .version .creator) Stamp.Absent (c .version .pointer) (bodyOf c (page p s))
-      = rw q₁ (moved 4096 12 (12 + cut .bytes) (e - (12 + cut .bytes)) hd (page p s) lh (omega (arith, len-p p q 0 0 s less fits)) a′ (c .at) size (omega arith) (omega arith) (omega arith)
-      ∙ cell-bytes c (page p s) (bytes-page p s B) got live) in
-      let g = stamp-grown a′ e′ (c .key) (c .version .creator) d (c .version .pointer) (bodyOf c (page p s)) (page q s₁) (rw q₁ lm) m (omega arith) (omega arith) (omega arith) there in
+      let q₁ : page s₁ q ≡ movedOver p q (12 + cut .bytes) e s = ap (λ (t : List ℕ). page t q) e₁ ∙ r in
+      let hd = part 0 12 (withNodeType 1 (page s q)) in
+      let lh : length hd ≡ 12 = length-part 0 12 (withNodeType 1 (page s q)) (omega (arith, len-leaf p q 0 0 s less fits)) in
+      let there : part a′ size (page s₁ q) ≡ cellBytes (c .key) (c .version .creator) Stamp.Absent (c .version .pointer) (bodyOf c (page s p))
+      = rw q₁ (moved 4096 12 (12 + cut .bytes) (e - (12 + cut .bytes)) hd (page s p) lh (omega (arith, len-p p q 0 0 s less fits)) a′ (c .at) size (omega arith) (omega arith) (omega arith)
+      ∙ cell-bytes c (page s p) (bytes-page p s B) got live) in
+      let g = stamp-grown a′ e′ (c .key) (c .version .creator) d (c .version .pointer) (bodyOf c (page s p)) (page s₁ q) (rw q₁ lm) m (omega arith) (omega arith) (omega arith) there in
       right-done p q n (c .at) (c .next) e cut stamped s less fits in₀ (omega arith) in₁ in₂ (omega arith) (omega arith) (omega arith) a′ (a′ + size) e′ h ea (omega arith) ee e₁ (f ∙ g) e₃
 
   pub stamp-left-done : {s₁ y s₃ : List ℕ} (mid m : ℕ) → c .next ≤ mid → mid ≤ e → mid + 8 ≤ 4096 → 12 + cut .bytes ≡ mid + 8 → m ≡ c .next - c .at
       → s₁ ≡ parted p q mid e s
-      → y ≡ grown (c .at) mid m d (page p s₁)
+      → y ≡ grown (c .at) mid m d (page s₁ p)
       → s₃ ≡ linked p q (cut .cells) (n - cut .cells) (setPage p y s₁)
-      → s₃ ≡ divided p q n cut (spliced (c .at) (c .next) e stamped (page p s)) s
+      → s₃ ≡ divided p q n cut (spliced (c .at) (c .next) e stamped (page s p)) s
   stamp-left-done {s₁} {y} {s₃} mid m h h₁ h₂ ec em e₁ f e₃ =
       let u = ends in
       let w = grows in
       let lm = length-moved p q mid e s less fits (omega arith) h₁ in₂ in
       let lk = length-kept p q mid e s less fits (omega arith) h₁ in₂ in
-      let p₁ : page p s₁ ≡ kept p mid s = ap (page p) e₁ ∙ both-left p q (kept p mid s) (movedOver p q mid e s) s less fits lk lm in
-      let there : part (c .at) size (page p s₁) ≡ cellBytes (c .key) (c .version .creator) Stamp.Absent (c .version .pointer) (bodyOf c (page p s))
-      = rw p₁ (moved 4096 0 0 mid [] (page p s) refl (omega (arith, len-p p q 0 0 s less fits)) (c .at) (c .at) size (omega arith) (omega arith) (omega arith)
-      ∙ cell-bytes c (page p s) (bytes-page p s B) got live) in
-      let g = stamp-grown (c .at) mid (c .key) (c .version .creator) d (c .version .pointer) (bodyOf c (page p s)) (page p s₁) (rw p₁ lk) m (omega arith) h₂ (omega arith) there in
-      let g₁ : y ≡ pad 4096 (spliced (c .at) (c .next) mid stamped (page p s₁)) = f ∙ rw u g in
+      let p₁ : page s₁ p ≡ kept p mid s = ap (λ (t : List ℕ). page t p) e₁ ∙ both-left p q (kept p mid s) (movedOver p q mid e s) s less fits lk lm in
+      let there : part (c .at) size (page s₁ p) ≡ cellBytes (c .key) (c .version .creator) Stamp.Absent (c .version .pointer) (bodyOf c (page s p))
+      = rw p₁ (moved 4096 0 0 mid [] (page s p) refl (omega (arith, len-p p q 0 0 s less fits)) (c .at) (c .at) size (omega arith) (omega arith) (omega arith)
+      ∙ cell-bytes c (page s p) (bytes-page p s B) got live) in
+      let g = stamp-grown (c .at) mid (c .key) (c .version .creator) d (c .version .pointer) (bodyOf c (page s p)) (page s₁ p) (rw p₁ lk) m (omega arith) h₂ (omega arith) there in
+      let g₁ : y ≡ pad 4096 (spliced (c .at) (c .next) mid stamped (page s₁ p)) = f ∙ rw u g in
       left-done p q n (c .at) (c .next) e cut stamped s less fits in₀ (omega arith) in₁ in₂ (omega arith) (omega arith) (omega arith) mid h h₁ (omega arith) e₁ g₁ e₃

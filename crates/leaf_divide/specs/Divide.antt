@@ -21,4 +21,4 @@ rightLeaf next n cut v fresh =
 
 -- page p of the pool divided so, with page q as the fresh one; v and n are of the leaf as it would be
 unfoldable pub divided : (p q n : ℕ) → Cut → List ℕ → List ℕ → List ℕ
-divided p q n cut v s = setPage p (leftLeaf q cut v) (setPage q (rightLeaf (nextLeaf (page p s)) n cut v (page q s)) s)
+divided p q n cut v s = setPage p (leftLeaf q cut v) (setPage q (rightLeaf (nextLeaf (page s p)) n cut v (page s q)) s)

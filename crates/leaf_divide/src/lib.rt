@@ -20,8 +20,8 @@ use row::Stamp;
 
 // The cells of page p that stand from c to e, moved into page q, which becomes a leaf.
 fn part_leaf(pool: &mut [u8], p: u32, q: u32, c: usize, e: usize)
-    requires { ⌜ (p < q) × (q * 4096 + 4096 ≤ length (now pool)) × (page q (now pool) ≡ zeros 4096) × (12 ≤ c) × (c ≤ e) × (e ≤ 4096) ⌝ }
-    ensures { λ _. ⌜ now (pool .exit) ≡ setPage p (pad 4096 (part 0 c (page p (now (pool .entry))))) (setPage q (pad 4096 (part 0 12 (withNodeType 1 (page q (now (pool .entry)))) ++ part c (e - c) (page p (now (pool .entry))))) (now (pool .entry))) ⌝ }
+    requires { ⌜ (p < q) × (q * 4096 + 4096 ≤ length (now pool)) × (page (now pool) q ≡ zeros 4096) × (12 ≤ c) × (c ≤ e) × (e ≤ 4096) ⌝ }
+    ensures { λ _. ⌜ now (pool .exit) ≡ setPage p (pad 4096 (part 0 c (page (now (pool .entry)) p))) (setPage q (pad 4096 (part 0 12 (withNodeType 1 (page (now (pool .entry)) q)) ++ part c (e - c) (page (now (pool .entry)) p))) (now (pool .entry))) ⌝ }
 {
     let a = p as usize * PAGE_SIZE;
     let b = q as usize * PAGE_SIZE;
@@ -33,7 +33,7 @@ fn part_leaf(pool: &mut [u8], p: u32, q: u32, c: usize, e: usize)
 // Counts k and r, and the links: page p to page q, page q to what was next.
 fn link_leaves(pool: &mut [u8], p: u32, q: u32, k: usize, r: usize)
     requires { ⌜ (p < q) × (q * 4096 + 4096 ≤ length (now pool)) × (k < 65536) × (r < 65536) ⌝ }
-    ensures { λ _. ⌜ now (pool .exit) ≡ setPage p (withNextLeaf q (withCount k (page p (now (pool .entry))))) (setPage q (withNextLeaf (nextLeaf (page p (now (pool .entry)))) (withCount r (page q (now (pool .entry))))) (now (pool .entry))) ⌝ }
+    ensures { λ _. ⌜ now (pool .exit) ≡ setPage p (withNextLeaf q (withCount k (page (now (pool .entry)) p))) (setPage q (withNextLeaf (nextLeaf (page (now (pool .entry)) p)) (withCount r (page (now (pool .entry)) q))) (now (pool .entry))) ⌝ }
 {
     let a = p as usize * PAGE_SIZE;
     let b = q as usize * PAGE_SIZE;
@@ -58,10 +58,10 @@ pub fn insert_divide_right(
     pointer: Pointer,
     body: &[u8],
 )
-    requires { ⌜ (p < q) × (q * 4096 + 4096 ≤ length (now pool)) × (page q (now pool) ≡ zeros 4096) ⌝ }
+    requires { ⌜ (p < q) × (q * 4096 + 4096 ≤ length (now pool)) × (page (now pool) q ≡ zeros 4096) ⌝ }
     requires { ⌜ (12 + cut .bytes ≤ at) × (at ≤ e) × (e ≤ 4096) × (n < 65535) × (cut .cells ≤ n + 1) ⌝ }
     requires { ⌜ (length (now body) ≤ 4051) × (e + cellSize stamp pointer (length (now body)) ≤ 4096 + cut .bytes) ⌝ }
-    ensures { λ _. ⌜ now (pool .exit) ≡ divided p q (n + 1) cut (spliced at at e (cellBytes key creator stamp pointer (now (body .entry))) (page p (now (pool .entry)))) (now (pool .entry)) ⌝ }
+    ensures { λ _. ⌜ now (pool .exit) ≡ divided p q (n + 1) cut (spliced at at e (cellBytes key creator stamp pointer (now (body .entry))) (page (now (pool .entry)) p)) (now (pool .entry)) ⌝ }
 {
     part_leaf(pool, p, q, page::HEADER_SIZE + cut.bytes, e);
     let b = q as usize * PAGE_SIZE;
@@ -94,10 +94,10 @@ pub fn insert_divide_left(
     pointer: Pointer,
     body: &[u8],
 )
-    requires { ⌜ (p < q) × (q * 4096 + 4096 ≤ length (now pool)) × (page q (now pool) ≡ zeros 4096) ⌝ }
+    requires { ⌜ (p < q) × (q * 4096 + 4096 ≤ length (now pool)) × (page (now pool) q ≡ zeros 4096) ⌝ }
     requires { ⌜ (12 ≤ at) × (e ≤ 4096) × (12 + cut .bytes ≤ 4096) × (n < 65535) × (cut .cells ≤ n + 1) × (length (now body) ≤ 4051) ⌝ }
     requires { ⌜ (at + cellSize stamp pointer (length (now body)) ≤ 12 + cut .bytes) × (12 + cut .bytes ≤ e + cellSize stamp pointer (length (now body))) ⌝ }
-    ensures { λ _. ⌜ now (pool .exit) ≡ divided p q (n + 1) cut (spliced at at e (cellBytes key creator stamp pointer (now (body .entry))) (page p (now (pool .entry)))) (now (pool .entry)) ⌝ }
+    ensures { λ _. ⌜ now (pool .exit) ≡ divided p q (n + 1) cut (spliced at at e (cellBytes key creator stamp pointer (now (body .entry))) (page (now (pool .entry)) p)) (now (pool .entry)) ⌝ }
 {
     let mid = page::HEADER_SIZE + cut.bytes - row::write::cell_size(stamp, pointer, body.len());
     part_leaf(pool, p, q, mid, e);
@@ -118,10 +118,10 @@ pub fn stamp_divide_right(
     c: Cell,
     d: u64,
 )
-    requires { ⌜ (p < q) × (q * 4096 + 4096 ≤ length (now pool)) × (page q (now pool) ≡ zeros 4096) ⌝ }
-    requires { ⌜ (cellAt (page p (now pool)) (c .at) ≡ CellRead.Got c) × (c .version .stamp ≡ Stamp.Absent) × (c .next ≤ e) × (e ≤ 4096) ⌝ }
+    requires { ⌜ (p < q) × (q * 4096 + 4096 ≤ length (now pool)) × (page (now pool) q ≡ zeros 4096) ⌝ }
+    requires { ⌜ (cellAt (page (now pool) p) (c .at) ≡ CellRead.Got c) × (c .version .stamp ≡ Stamp.Absent) × (c .next ≤ e) × (e ≤ 4096) ⌝ }
     requires { ⌜ (12 + cut .bytes ≤ c .at) × (e + 8 ≤ 4096 + cut .bytes) × (n < 65536) × (cut .cells ≤ n) ⌝ }
-    ensures { λ _. ⌜ now (pool .exit) ≡ divided p q n cut (spliced (c .at) (c .next) e (cellBytes (c .key) (c .version .creator) (Stamp.By d) (c .version .pointer) (part (c .version .start) (c .version .len) (page p (now (pool .entry))))) (page p (now (pool .entry)))) (now (pool .entry)) ⌝ }
+    ensures { λ _. ⌜ now (pool .exit) ≡ divided p q n cut (spliced (c .at) (c .next) e (cellBytes (c .key) (c .version .creator) (Stamp.By d) (c .version .pointer) (part (c .version .start) (c .version .len) (page (now (pool .entry)) p))) (page (now (pool .entry)) p)) (now (pool .entry)) ⌝ }
 {
     part_leaf(pool, p, q, page::HEADER_SIZE + cut.bytes, e);
     let b = q as usize * PAGE_SIZE;
@@ -147,10 +147,10 @@ pub fn stamp_divide_left(
     c: Cell,
     d: u64,
 )
-    requires { ⌜ (p < q) × (q * 4096 + 4096 ≤ length (now pool)) × (page q (now pool) ≡ zeros 4096) ⌝ }
-    requires { ⌜ (cellAt (page p (now pool)) (c .at) ≡ CellRead.Got c) × (c .version .stamp ≡ Stamp.Absent) × (12 ≤ c .at) × (e ≤ 4096) ⌝ }
+    requires { ⌜ (p < q) × (q * 4096 + 4096 ≤ length (now pool)) × (page (now pool) q ≡ zeros 4096) ⌝ }
+    requires { ⌜ (cellAt (page (now pool) p) (c .at) ≡ CellRead.Got c) × (c .version .stamp ≡ Stamp.Absent) × (12 ≤ c .at) × (e ≤ 4096) ⌝ }
     requires { ⌜ (c .next + 8 ≤ 12 + cut .bytes) × (12 + cut .bytes ≤ e + 8) × (12 + cut .bytes ≤ 4096) × (n < 65536) × (cut .cells ≤ n) ⌝ }
-    ensures { λ _. ⌜ now (pool .exit) ≡ divided p q n cut (spliced (c .at) (c .next) e (cellBytes (c .key) (c .version .creator) (Stamp.By d) (c .version .pointer) (part (c .version .start) (c .version .len) (page p (now (pool .entry))))) (page p (now (pool .entry)))) (now (pool .entry)) ⌝ }
+    ensures { λ _. ⌜ now (pool .exit) ≡ divided p q n cut (spliced (c .at) (c .next) e (cellBytes (c .key) (c .version .creator) (Stamp.By d) (c .version .pointer) (part (c .version .start) (c .version .len) (page (now (pool .entry)) p))) (page (now (pool .entry)) p)) (now (pool .entry)) ⌝ }
 {
     let mid = page::HEADER_SIZE + cut.bytes - 8;
     part_leaf(pool, p, q, mid, e);

@@ -39,8 +39,8 @@ pub record Swept : Type 0 where
   pub told : Vacuumed
 
 -- a leaf: the rows that are kept are written, where anything changes
-unfoldable pub vacuumedLeaf : (ℕ → ℕ) → (bound : ℕ) → List ℕ → Swept
-vacuumedLeaf st bound pg =
+unfoldable pub vacuumedLeaf : List ℕ → (ℕ → ℕ) → (bound : ℕ) → Swept
+vacuumedLeaf pg st bound =
     record {
       page = pick (changesRows st bound (rows pg)) (writeRows (keptRows st bound (rows pg)) pg) pg;
       told = record { dropped = droppedRows st bound (rows pg); changed = changesRows st bound (rows pg) };

@@ -43,9 +43,9 @@ pub fn vacuum_leaf(
     e: usize,
     n: usize,
 ) -> Vacuumed
-    requires { ⌜ (length (now pg) ≡ 4096) × StatusesJudged (statuses (now ids) (now states)) × (n ≡ cellCount (now pg)) × (n < 65536) × (judgeLeaf 0 (now pg) ≡ Judged.Ok e) ⌝ }
-    ensures { λ r. ⌜ (r ≡ vacuumedLeaf (lookup (statuses (now (ids .entry)) (now (states .entry)))) bound (now (pg .entry)) .told)
-        × (now (pg .exit) ≡ vacuumedLeaf (lookup (statuses (now (ids .entry)) (now (states .entry)))) bound (now (pg .entry)) .page) ⌝ }
+    requires { ⌜ (length (now pg) ≡ 4096) × StatusesJudged (statuses (now ids) (now states)) × (n ≡ cellCount (now pg)) × (n < 65536) × (judgeLeaf (now pg) 0 ≡ Judged.Ok e) ⌝ }
+    ensures { λ r. ⌜ (r ≡ vacuumedLeaf (now (pg .entry)) (lookup (statuses (now (ids .entry)) (now (states .entry)))) bound .told)
+        × (now (pg .exit) ≡ vacuumedLeaf (now (pg .entry)) (lookup (statuses (now (ids .entry)) (now (states .entry)))) bound .page) ⌝ }
 {
     let mut left = n;
     let mut at = page::HEADER_SIZE;

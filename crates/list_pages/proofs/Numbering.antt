@@ -97,7 +97,7 @@ module _ (out₀ listed : List ℕ) (l : Log) (p : ℕ) (k : Kept out₀ listed 
 -- ---- the two walks
 
 module _ (used root : ℕ) (s : List ℕ) where
-  walks-alike : (n : ℕ) (out : List ℕ) → n ≡ 8192 → used ≤ 65536 → Alike (Kept out) (numbersOf s used root) (visitOf 3 used s [] (logOf 0 (zeros n) out) root)
+  walks-alike : (n : ℕ) (out : List ℕ) → n ≡ 8192 → used ≤ 65536 → Alike (Kept out) (numbersOf s used root) (visitOf s used 3 [] (logOf 0 (zeros n) out) root)
   unfolding numbersOf visitOf
   walks-alike n out e h =
       visit-alike (Kept out) (λ l p. mem p l) (λ p l. l ++ (p ∷ [])) (λ m q. bitAt (m .seen) q) noted used s (λ l m q k b. k .bits q (omega arith))
@@ -150,7 +150,7 @@ module _ (used root : ℕ) (s out : List ℕ) (few : used ≤ 65536) where
   unfolding numbersTree fitted
   tree-done {l} e h = rw (e, length-records l, le-leb (length l * 10) (length out) h)
 
-  module _ (n : ℕ) (eight : n ≡ 8192) (first seen₁ out₁ : List ℕ) (r : Numbered) (ended : LogEnds r seen₁ out₁ (visitOf 3 used s [] (logOf 0 (zeros n) first) root)) where
+  module _ (n : ℕ) (eight : n ≡ 8192) (first seen₁ out₁ : List ℕ) (r : Numbered) (ended : LogEnds r seen₁ out₁ (visitOf s used 3 [] (logOf 0 (zeros n) first) root)) where
     pub list-bad : {f : Fault} → r ≡ Numbered.Bad f → written (Listing.Bad f) out ≡ numbersTree s used root out
     list-bad e = tree-bad (fault-of first _ _ (walks-alike used root s n first eight few) (told-bad seen₁ out₁ r _ ended e))
 
@@ -166,7 +166,7 @@ module _ (used root : ℕ) (s out : List ℕ) (few : used ≤ 65536) where
       list-short h = tree-short (found .1 .0) (omega (arith, found .1 .1 .number))
 
       -- the second walk, into the output itself
-      done : (seen₂ out₂ : List ℕ) (r₂ : Numbered) → LogEnds r₂ seen₂ out₂ (visitOf 3 used s [] (logOf 0 (zeros n) out) root) → m * 10 ≤ length out
+      done : (seen₂ out₂ : List ℕ) (r₂ : Numbered) → LogEnds r₂ seen₂ out₂ (visitOf s used 3 [] (logOf 0 (zeros n) out) root) → m * 10 ≤ length out
           → written (Listing.Done (m * 10)) out₂ ≡ numbersTree s used root out
       done seen₂ out₂ (Numbered.Bad f) again h =
           let e : numbersOf s used root ≡ ill f = fault-of out _ _ (walks-alike used root s n out eight few) (told-bad seen₂ out₂ (Numbered.Bad f) _ again refl) in
@@ -178,6 +178,6 @@ module _ (used root : ℕ) (s out : List ℕ) (few : used ≤ 65536) where
           let l : length (w .0) * 10 ≤ length out = omega arith in
           rw (w .1 .1 .records l, c) (tree-done (w .1 .0) l)
 
-      pub list-done : (seen₂ out₂ : List ℕ) (r₂ : Numbered) {z o : List ℕ} → z ≡ zeros n → o ≡ out → LogEnds r₂ seen₂ out₂ (visitOf 3 used s [] (logOf 0 z o) root) → m * 10 ≤ length out
+      pub list-done : (seen₂ out₂ : List ℕ) (r₂ : Numbered) {z o : List ℕ} → z ≡ zeros n → o ≡ out → LogEnds r₂ seen₂ out₂ (visitOf s used 3 [] (logOf 0 z o) root) → m * 10 ≤ length out
           → written (Listing.Done (m * 10)) out₂ ≡ numbersTree s used root out
       list-done seen₂ out₂ r₂ e q again = done seen₂ out₂ r₂ (rw (e, q) at again)

@@ -38,21 +38,21 @@ told-ok seen out (Numbered.Ok n) (ok l) h e = cc
 
 -- the first j children of a page, the last of them first, each visited
 unfoldable pub kidsOf : (k used : ℕ) → List ℕ → (up : List ℕ) → (j : ℕ) → List ℕ → Log → Told Log
-kidsOf k used s up j pg l = visitKids (visiting (λ m q. bitAt (m .seen) q) noted k used s up) j pg l
+kidsOf k used s up j pg l = visitKids pg (visiting s used (λ m q. bitAt (m .seen) q) noted k up) j l
 
 module _ (used : ℕ) (s up : List ℕ) (l : Log) (p : ℕ) where
-  pub visit-bad : (k : ℕ) {t : Top} {f : Fault} → t ≡ topAt k used s up (bitAt (l .seen) p) p → t ≡ Top.Bad f → ill f ≡ visitOf k used s up l p
+  pub visit-bad : (k : ℕ) {t : Top} {f : Fault} → t ≡ topAt s used k up (bitAt (l .seen) p) p → t ≡ Top.Bad f → ill f ≡ visitOf s used k up l p
   unfolding visitOf visiting
   visit-bad zero e q = rw (sym e ∙ q)
   visit-bad (suc k) e q = rw (sym e ∙ q)
 
-  pub visit-skip : (k : ℕ) {t : Top} → t ≡ topAt k used s up (bitAt (l .seen) p) p → t ≡ Top.Skip → ok l ≡ visitOf k used s up l p
+  pub visit-skip : (k : ℕ) {t : Top} → t ≡ topAt s used k up (bitAt (l .seen) p) p → t ≡ Top.Skip → ok l ≡ visitOf s used k up l p
   unfolding visitOf visiting
   visit-skip zero e q = rw (sym e ∙ q)
   visit-skip (suc k) e q = rw (sym e ∙ q)
 
-  pub visit-page : (k : ℕ) {t : Top} {m : ℕ} {l₁ : Log} → t ≡ topAt k used s up (bitAt (l .seen) p) p → t ≡ Top.Page m → l₁ ≡ noted p l
-      → kidsOf (k - 1) used s (up ++ (p ∷ [])) m (page p s) l₁ ≡ visitOf k used s up l p
+  pub visit-page : (k : ℕ) {t : Top} {m : ℕ} {l₁ : Log} → t ≡ topAt s used k up (bitAt (l .seen) p) p → t ≡ Top.Page m → l₁ ≡ noted p l
+      → kidsOf (k - 1) used s (up ++ (p ∷ [])) m (page s p) l₁ ≡ visitOf s used k up l p
   unfolding visitOf visiting kidsOf visitKids
   visit-page zero {t} {m} e q n =
       let i = page-is zero used s up (bitAt (l .seen) p) p e q in
@@ -71,14 +71,14 @@ module _ (k used : ℕ) (s up pg : List ℕ) (l : Log) where
   kids-end (suc j) h = absurd (omega arith)
 
   module _ {v g : List ℕ} {q : ℕ} (line : v ≡ up) (here : g ≡ pg) where
-    pub kids-bad : (j : ℕ) {f : Fault} → 0 < j → q ≡ childAt g (j - 1) → visitOf k used s v l q ≡ ill f → ill f ≡ kidsOf k used s up j pg l
+    pub kids-bad : (j : ℕ) {f : Fault} → 0 < j → q ≡ childAt g (j - 1) → visitOf s used k v l q ≡ ill f → ill f ≡ kidsOf k used s up j pg l
     unfolding kidsOf visitKids visitOf
     kids-bad zero h c e = absurd (omega arith)
     kids-bad (suc j) h c e =
         let z : suc j - 1 ≡ j = omega arith in
         rw (rw (line, c, here, z) at e)
 
-    pub kids-on : (j : ℕ) {l₁ : Log} → 0 < j → q ≡ childAt g (j - 1) → visitOf k used s v l q ≡ ok l₁
+    pub kids-on : (j : ℕ) {l₁ : Log} → 0 < j → q ≡ childAt g (j - 1) → visitOf s used k v l q ≡ ok l₁
         → kidsOf k used s up (j - 1) pg l₁ ≡ kidsOf k used s up j pg l
     unfolding kidsOf visitKids visitOf
     kids-on zero h c e = absurd (omega arith)
@@ -98,38 +98,38 @@ unfolding noted
 noted-count p l = refl
 
 kids-count : (f : Log → ℕ → Told Log) (c : ℕ) → ((l : Log) (q : ℕ) → toldCount (f l q) ≤ l .count + c) → (j : ℕ) (pg : List ℕ) (l : Log)
-    → toldCount (visitKids f j pg l) ≤ l .count + j * c
+    → toldCount (visitKids pg f j l) ≤ l .count + j * c
 unfolding visitKids
 kids-count f c h zero pg l = omega arith
 kids-count f c h (suc j) pg l = by-told (f l (childAt pg j)) (h l (childAt pg j)) (λ m. kids-count f c h j pg m)
   where
-    by-told : (t : Told Log) → toldCount t ≤ l .count + c → ((m : Log) → toldCount (visitKids f j pg m) ≤ m .count + j * c)
-        → toldCount (onTold (λ m. visitKids f j pg m) (λ e. ill e) t) ≤ l .count + suc j * c
+    by-told : (t : Told Log) → toldCount t ≤ l .count + c → ((m : Log) → toldCount (visitKids pg f j m) ≤ m .count + j * c)
+        → toldCount (onTold (λ m. visitKids pg f j m) (λ e. ill e) t) ≤ l .count + suc j * c
     by-told (ok m) a b = omega (arith, b m, suc-mul j c)
     by-told (ill e) a b = zero-le
 
-visit-count : (k used : ℕ) (s up : List ℕ) (l : Log) (p : ℕ) → toldCount (visiting (λ m q. bitAt (m .seen) q) noted k used s up l p) ≤ l .count + capOf k
+visit-count : (k used : ℕ) (s up : List ℕ) (l : Log) (p : ℕ) → toldCount (visiting s used (λ m q. bitAt (m .seen) q) noted k up l p) ≤ l .count + capOf k
 unfolding visiting capOf
-visit-count zero used s up l p = by-top (topAt 0 used s up (bitAt (l .seen) p) p)
+visit-count zero used s up l p = by-top (topAt s used 0 up (bitAt (l .seen) p) p)
   where
     by-top : (t : Top) → toldCount (onTop (λ m. ok (noted p l)) (ok l) (λ f. ill f) t) ≤ l .count + 1
     by-top (Top.Page m) = omega (arith, noted-count p l)
     by-top Top.Skip = omega arith
     by-top (Top.Bad f) = zero-le
 visit-count (suc k) used s up l p =
-    by-top (topAt (suc k) used s up (bitAt (l .seen) p) p) refl (kids-count (visiting (λ m q. bitAt (m .seen) q) noted k used s (up ++ (p ∷ []))) (capOf k) (λ m q. visit-count k used s (up ++ (p ∷ [])) m q))
+    by-top (topAt s used (suc k) up (bitAt (l .seen) p) p) refl (kids-count (visiting s used (λ m q. bitAt (m .seen) q) noted k (up ++ (p ∷ []))) (capOf k) (λ m q. visit-count k used s (up ++ (p ∷ [])) m q))
   where
-    by-top : (t : Top) → t ≡ topAt (suc k) used s up (bitAt (l .seen) p) p
-        → ((j : ℕ) (pg : List ℕ) (m : Log) → toldCount (visitKids (visiting (λ m q. bitAt (m .seen) q) noted k used s (up ++ (p ∷ []))) j pg m) ≤ m .count + j * capOf k)
-        → toldCount (onTop (λ m. visitKids (visiting (λ m q. bitAt (m .seen) q) noted k used s (up ++ (p ∷ []))) m (page p s) (noted p l)) (ok l) (λ f. ill f) t)
+    by-top : (t : Top) → t ≡ topAt s used (suc k) up (bitAt (l .seen) p) p
+        → ((j : ℕ) (pg : List ℕ) (m : Log) → toldCount (visitKids pg (visiting s used (λ m q. bitAt (m .seen) q) noted k (up ++ (p ∷ []))) j m) ≤ m .count + j * capOf k)
+        → toldCount (onTop (λ m. visitKids (page s p) (visiting s used (λ m q. bitAt (m .seen) q) noted k (up ++ (p ∷ []))) m (noted p l)) (ok l) (λ f. ill f) t)
         ≤ l .count + (1 + 511 * capOf k)
     by-top (Top.Page m) e h =
         let i = page-is (suc k) used s up (bitAt (l .seen) p) p e refl in
-        omega (arith, h m (page p s) (noted p l), noted-count p l, mul-le-mul-right (capOf k) (i .few))
+        omega (arith, h m (page s p) (noted p l), noted-count p l, mul-le-mul-right (capOf k) (i .few))
     by-top Top.Skip e h = omega arith
     by-top (Top.Bad f) e h = zero-le
 
-pub visit-grows : (k used : ℕ) (s up : List ℕ) (l : Log) (p : ℕ) {l₁ : Log} → visitOf k used s up l p ≡ ok l₁ → l₁ .count ≤ l .count + capOf k
+pub visit-grows : (k used : ℕ) (s up : List ℕ) (l : Log) (p : ℕ) {l₁ : Log} → visitOf s used k up l p ≡ ok l₁ → l₁ .count ≤ l .count + capOf k
 unfolding visitOf
 visit-grows k used s up l p e = rw e at (visit-count k used s up l p)
 

@@ -23,13 +23,13 @@ use Rattle.list_pages.specs.declared.Top.{Top}
 
 -- what is to be done with page p, k levels above the last, under the pages `up`: a fault; nothing, if it is listed; or it
 -- is listed, and so many children are visited. Own ancestor comes before already listed.
-unfoldable pub topAt : (k used : ℕ) → List ℕ → (up : List ℕ) → (listed : Bool) → (p : ℕ) → Top
-topAt k used s up listed p =
+unfoldable pub topAt : List ℕ → (used k : ℕ) → (up : List ℕ) → (listed : Bool) → (p : ℕ) → Top
+topAt s used k up listed p =
     pick (ltb p used)
     (pick (mem p up) (Top.Bad (structural p))
     (pick listed Top.Skip
-    (pick (eqb (nodeType (page p s)) nodeLeaf) (Top.Page 0)
-    (pick (eqb k 0) (Top.Bad (structural p)) (onInner (λ n. Top.Page (n + 1)) (λ f. Top.Bad f) (judgeInner p (page p s)))))))
+    (pick (eqb (nodeType (page s p)) nodeLeaf) (Top.Page 0)
+    (pick (eqb k 0) (Top.Bad (structural p)) (onInner (λ n. Top.Page (n + 1)) (λ f. Top.Bad f) (judgeInner (page s p) p))))))
     (Top.Bad (structural p))
 
 abbrev pub onTop : {A : Type 0} → (ℕ → A) → A → (Fault → A) → Top → A
@@ -42,19 +42,19 @@ onTold good bad (ok a) = good a
 onTold good bad (ill f) = bad f
 
 -- the first j children, the last of them first; f visits one
-unfoldable pub visitKids : {L : Type 0} → (L → ℕ → Told L) → (j : ℕ) → List ℕ → L → Told L
-visitKids f zero pg l = ok l
-visitKids f (suc j) pg l = onTold (λ m. visitKids f j pg m) (λ e. ill e) (f l (childAt pg j))
+unfoldable pub visitKids : {L : Type 0} → List ℕ → (L → ℕ → Told L) → (j : ℕ) → L → Told L
+visitKids pg f zero l = ok l
+visitKids pg f (suc j) l = onTold (λ m. visitKids pg f j m) (λ e. ill e) (f l (childAt pg j))
 
 -- the walk from page p, k levels above the last, on a log: whether it has a page, and how a page is added
-unfoldable pub visiting : {L : Type 0} → (L → ℕ → Bool) → (ℕ → L → L) → (k used : ℕ) → List ℕ → (up : List ℕ) → L → (p : ℕ) → Told L
-visiting has add zero used s up l p = onTop (λ m. ok (add p l)) (ok l) (λ f. ill f) (topAt 0 used s up (has l p) p)
-visiting has add (suc k) used s up l p =
-    onTop (λ m. visitKids (visiting has add k used s (up ++ (p ∷ []))) m (page p s) (add p l)) (ok l) (λ f. ill f) (topAt (suc k) used s up (has l p) p)
+unfoldable pub visiting : {L : Type 0} → List ℕ → (used : ℕ) → (L → ℕ → Bool) → (ℕ → L → L) → (k : ℕ) → (up : List ℕ) → L → (p : ℕ) → Told L
+visiting s used has add zero up l p = onTop (λ m. ok (add p l)) (ok l) (λ f. ill f) (topAt s used 0 up (has l p) p)
+visiting s used has add (suc k) up l p =
+    onTop (λ m. visitKids (page s p) (visiting s used has add k (up ++ (p ∷ []))) m (add p l)) (ok l) (λ f. ill f) (topAt s used (suc k) up (has l p) p)
 
 -- the log is the list of page numbers
 unfoldable pub numbersOf : List ℕ → (used root : ℕ) → Told (List ℕ)
-numbersOf s used root = visiting (λ l p. mem p l) (λ p l. l ++ (p ∷ [])) 3 used s [] [] root
+numbersOf s used root = visiting s used (λ l p. mem p l) (λ p l. l ++ (p ∷ [])) 3 [] [] root
 
 -- "Page numbers are listed alike, kind 5 and the u32"
 unfoldable pub numberRecords : List ℕ → List ℕ

@@ -100,7 +100,7 @@ fn longer_line(line: Line, p: u32) -> Line
 
 fn judge_top(pool: &[u8], seen: &[u8], used: u32, below: usize, line: Line, p: u32) -> Top
     requires { ⌜ (used * 4096 ≤ length (now pool)) × (used ≤ 65536) × (length (now seen) ≡ 8192) × (line .len ≤ 4) ⌝ }
-    ensures { λ r. ⌜ r ≡ topAt below used (now (pool .entry)) (lineOf line) (bitAt (now (seen .entry)) p) p ⌝ }
+    ensures { λ r. ⌜ r ≡ topAt (now (pool .entry)) used below (lineOf line) (bitAt (now (seen .entry)) p) p ⌝ }
 {
     let bad = row::structural_fault(p);
     if used <= p {
@@ -150,7 +150,7 @@ fn visit(
     p: u32,
 ) -> Numbered
     requires { ⌜ (used * 4096 ≤ length (now pool)) × (used ≤ 65536) × (length (now seen) ≡ 8192) × (line .len + below ≡ 3) × (count + capOf below ≤ 4294967296) ⌝ }
-    ensures { λ r. ⌜ LogEnds r (now (seen .exit)) (now (out .exit)) (visitOf below used (now (pool .entry)) (lineOf line) (logOf count (now (seen .entry)) (now (out .entry))) p) ⌝ }
+    ensures { λ r. ⌜ LogEnds r (now (seen .exit)) (now (out .exit)) (visitOf (now (pool .entry)) used below (lineOf line) (logOf count (now (seen .entry)) (now (out .entry))) p) ⌝ }
 {
     let kids = match judge_top(pool, seen, used, below, line, p) {
         Top::Bad(f) => return Numbered::Bad(f),
@@ -183,7 +183,7 @@ fn visit(
 // The tree's pages from the root, into the table and the output.
 fn walk(pool: &[u8], seen: &mut [u8], out: &mut [u8], used: u32, root: u32) -> Numbered
     requires { ⌜ (used * 4096 ≤ length (now pool)) × (used ≤ 65536) × (length (now seen) ≡ 8192) ⌝ }
-    ensures { λ r. ⌜ LogEnds r (now (seen .exit)) (now (out .exit)) (visitOf 3 used (now (pool .entry)) [] (logOf 0 (now (seen .entry)) (now (out .entry))) root) ⌝ }
+    ensures { λ r. ⌜ LogEnds r (now (seen .exit)) (now (out .exit)) (visitOf (now (pool .entry)) used 3 [] (logOf 0 (now (seen .entry)) (now (out .entry))) root) ⌝ }
 {
     let line = Line {
         pages: [0u32; 4],

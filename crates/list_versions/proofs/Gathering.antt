@@ -65,7 +65,7 @@ module _ (which : Which) (used first : ℕ) (s : List ℕ) (p size left : ℕ) (
   unfolding rowsAlong
   measured-unused z l e = ap sizeTold (along-unused (lookRows which) used (h .got) p s left z l e ∙ h .same)
 
-  module _ (z : 0 < left) (l : p < used) (B : AreBytes s) {pg : List ℕ} (here : pg ≡ page p s) (len : length pg ≡ 4096) {r : LeafRun} (said : r ≡ runOf which p pg) where
+  module _ (z : 0 < left) (l : p < used) (B : AreBytes s) {pg : List ℕ} (here : pg ≡ page s p) (len : length pg ≡ 4096) {r : LeafRun} (said : r ≡ runOf pg p which) where
     pub measured-bad : {f : Fault} → r ≡ LeafRun.Bad f → ChainSize.Bad f ≡ sizeTold (rowsAlong s used first which)
     unfolding rowsAlong
     measured-bad u = ap sizeTold (along-bad (lookRows which) used (h .got) p s l here left z (run-broken which p pg (h .got) said u) ∙ h .same)
@@ -103,36 +103,36 @@ module _ (which : Which) (used first : ℕ) (s : List ℕ) (p size left : ℕ) (
 
 record Met (which : Which) (p : ℕ) (pg : List ℕ) (rs all : List Row) : Type 0 where
   end : ℕ
-  judged : judgeLeaf p pg ≡ Judged.Ok end
+  judged : judgeLeaf pg p ≡ Judged.Ok end
   within : length (records (rs ++ wanted which (rows pg))) ≤ length (records all)
 
 module _ (which : Which) (used : ℕ) (s : List ℕ) (all : List Row) where
   walk-met : (m p : ℕ) (rs : List Row) → ((p : ℕ) (rs : List Row) → along s used p (lookRows which) m rs ≡ ok all → length (records rs) ≤ length (records all))
-      → along s used p (lookRows which) (suc m) rs ≡ ok all → Met which p (page p s) rs all
+      → along s used p (lookRows which) (suc m) rs ≡ ok all → Met which p (page s p) rs all
   unfolding along
   walk-met m p rs ih h = by-used (ltb p used) h
     where
       x : List Row
-      x = rs ++ wanted which (rows (page p s))
+      x = rs ++ wanted which (rows (page s p))
 
       rest : List Row → Told (List Row)
-      rest b = pick (eqb (nextLeaf (page p s)) 0) (ok b) (along s used (nextLeaf (page p s)) (lookRows which) m b)
+      rest b = pick (eqb (nextLeaf (page s p)) 0) (ok b) (along s used (nextLeaf (page s p)) (lookRows which) m b)
 
-      by-next : (b : Bool) → pick b (ok x) (along s used (nextLeaf (page p s)) (lookRows which) m x) ≡ ok all → length (records x) ≤ length (records all)
+      by-next : (b : Bool) → pick b (ok x) (along s used (nextLeaf (page s p)) (lookRows which) m x) ≡ ok all → length (records x) ≤ length (records all)
       by-next true q = let e : x ≡ all = cc in rw e (omega arith)
-      by-next false q = ih (nextLeaf (page p s)) x q
+      by-next false q = ih (nextLeaf (page s p)) x q
 
       by-end : (b : Bool) → onSeen (λ b. ok b) rest (λ f. ill f) (pick b (stop x) (go x)) ≡ ok all → length (records x) ≤ length (records all)
       by-end true q = let e : x ≡ all = cc in rw e (omega arith)
-      by-end false q = by-next (eqb (nextLeaf (page p s)) 0) q
+      by-end false q = by-next (eqb (nextLeaf (page s p)) 0) q
 
-      by-judged : (j : Judged) → judgeLeaf p (page p s) ≡ j
-          → onSeen (λ b. ok b) rest (λ f. ill f) (onJudged (λ e. pick (ends which (cells (page p s))) (stop x) (go x)) (λ f. broken f) j) ≡ ok all → Met which p (page p s) rs all
+      by-judged : (j : Judged) → judgeLeaf (page s p) p ≡ j
+          → onSeen (λ b. ok b) rest (λ f. ill f) (onJudged (λ e. pick (ends which (cells (page s p))) (stop x) (go x)) (λ f. broken f) j) ≡ ok all → Met which p (page s p) rs all
       by-judged (Judged.Bad f) t q = absurd (let z : _≡_ {A = ℕ} 0 1 = cc in omega arith)
-      by-judged (Judged.Ok e) t q = record { end = e; judged = t; within = by-end (ends which (cells (page p s))) q }
+      by-judged (Judged.Ok e) t q = record { end = e; judged = t; within = by-end (ends which (cells (page s p))) q }
 
-      by-used : (b : Bool) → pick b (onSeen (λ b. ok b) rest (λ f. ill f) (lookRows which rs p (page p s))) (ill (structural p)) ≡ ok all → Met which p (page p s) rs all
-      by-used true q = by-judged (judgeLeaf p (page p s)) refl q
+      by-used : (b : Bool) → pick b (onSeen (λ b. ok b) rest (λ f. ill f) (lookRows which rs p (page s p))) (ill (structural p)) ≡ ok all → Met which p (page s p) rs all
+      by-used true q = by-judged (judgeLeaf (page s p) p) refl q
       by-used false q = absurd (let z : _≡_ {A = ℕ} 0 1 = cc in omega arith)
 
   walk-grows : (m p : ℕ) (rs : List Row) → along s used p (lookRows which) m rs ≡ ok all → length (records rs) ≤ length (records all)
@@ -140,9 +140,9 @@ module _ (which : Which) (used : ℕ) (s : List ℕ) (all : List Row) where
   walk-grows zero p rs h = absurd (let z : _≡_ {A = ℕ} 0 1 = cc in omega arith)
   walk-grows (suc m) p rs h =
       let w = walk-met m p rs (walk-grows m) h in
-      omega (arith, w .within, length-more rs (wanted which (rows (page p s))))
+      omega (arith, w .within, length-more rs (wanted which (rows (page s p))))
 
-  walk-meets : (m p : ℕ) (rs : List Row) → 0 < m → along s used p (lookRows which) m rs ≡ ok all → Met which p (page p s) rs all
+  walk-meets : (m p : ℕ) (rs : List Row) → 0 < m → along s used p (lookRows which) m rs ≡ ok all → Met which p (page s p) rs all
   walk-meets zero p rs z h = absurd (omega arith)
   walk-meets (suc m) p rs z h = walk-met m p rs (walk-grows m) h
 
@@ -177,18 +177,18 @@ module _ (which : Which) (used first : ℕ) (s out₀ out : List ℕ) (p o left 
   pub copied-unused : 0 < left → used ≤ p → ⊥
   copied-unused z l = not-both (along-unused (lookRows which) used (h .got) p s left z l refl) walks
 
-  module _ (z : 0 < left) (l : p < used) (B : AreBytes s) {pg : List ℕ} (here : pg ≡ page p s) (len : length pg ≡ 4096) {a : Again} (said : a ≡ againOf which p pg) where
+  module _ (z : 0 < left) (l : p < used) (B : AreBytes s) {pg : List ℕ} (here : pg ≡ page s p) (len : length pg ≡ 4096) {a : Again} (said : a ≡ againOf pg p which) where
     met : Met which p pg (h .got) all
     met = rw here (walk-meets which used s all left p (h .got) z walks)
 
     gave : Gives which p pg (a .from) (a .count) (a .last)
     gave = gives-again which p pg (rw here (bytes-page p s B)) len (met .judged) said
 
-    pub copied-room : (length (cellsOf (a .count) (a .from) pg) ≡ a .count) × (o + length (records (rowsOf (a .count) (a .from) pg)) ≤ length out)
+    pub copied-room : (length (cellsOf pg (a .count) (a .from)) ≡ a .count) × (o + length (records (rowsOf pg (a .count) (a .from))) ≤ length out)
     copied-room =
         (gave .all, omega (arith, met .within, length-more (h .got) (wanted which (rows pg)), ap (λ (rs : List Row). length (records rs)) (gave .same), h .end-is, h .long))
 
-    module _ {out₁ : List ℕ} (stored : out₁ ≡ put o (records (rowsOf (a .count) (a .from) pg)) out) where
+    module _ {out₁ : List ℕ} (stored : out₁ ≡ put o (records (rowsOf pg (a .count) (a .from))) out) where
       joined : out₁ ≡ put 0 (records (h .got ++ wanted which (rows pg))) out₀
       joined =
           stored
@@ -205,12 +205,12 @@ module _ (which : Which) (used first : ℕ) (s out₀ out : List ℕ) (p o left 
         pub copied-end : n ≡ 0 → out₁ ≡ put 0 (records (rowsTold (rowsAlong s used first which))) out₀
         copied-end q = finished (along-end (lookRows which) used (h .got) p s l here left z (seen-more (h .got) gave t) next q)
 
-        pub copied-on : {o₁ : ℕ} → (n ≡ 0 → ⊥) → o₁ ≡ o + length (records (rowsOf (a .count) (a .from) pg)) → Copied which used first s out₀ out₁ n o₁ (left - 1)
+        pub copied-on : {o₁ : ℕ} → (n ≡ 0 → ⊥) → o₁ ≡ o + length (records (rowsOf pg (a .count) (a .from))) → Copied which used first s out₀ out₁ n o₁ (left - 1)
         copied-on q w =
             record {
               got = h .got ++ wanted which (rows pg);
               same = along-on (lookRows which) used (h .got) p s l here left z (seen-more (h .got) gave t) next q ∙ h .same;
               end-is = omega (arith, w, h .end-is, length-more (h .got) (wanted which (rows pg)), ap (λ (rs : List Row). length (records rs)) (gave .same));
               out-is = joined;
-              long = ap length stored ∙ (length-put o (records (rowsOf (a .count) (a .from) pg)) out (copied-room .1) ∙ h .long);
+              long = ap length stored ∙ (length-put o (records (rowsOf pg (a .count) (a .from))) out (copied-room .1) ∙ h .long);
             }

@@ -74,24 +74,24 @@ module _ (s : List ℕ) (B : AreBytes s) where
 pub record FirstCell (s : List ℕ) (n at next : ℕ) : Type 0 where
   pub low : at + 19 ≤ next
   pub inside : next ≤ length s
-  pub count : length (cellsOf (n - 1) next s) ≡ n - 1
-  pub rest : records (rowsOf n at s) ≡ recordBytes 1 (part at (next - at) s) ++ records (rowsOf (n - 1) next s)
+  pub count : length (cellsOf s (n - 1) next) ≡ n - 1
+  pub rest : records (rowsOf s n at) ≡ recordBytes 1 (part at (next - at) s) ++ records (rowsOf s (n - 1) next)
   pub width : length (part at (next - at) s) ≡ next - at
   pub size : length (recordBytes 1 (part at (next - at) s)) ≡ 6 + (next - at)
-  pub long : length (records (rowsOf n at s)) ≡ 6 + (next - at) + length (records (rowsOf (n - 1) next s))
+  pub long : length (records (rowsOf s n at)) ≡ 6 + (next - at) + length (records (rowsOf s (n - 1) next))
 
-pub first-cell : (s : List ℕ) → AreBytes s → (n at : ℕ) {k : ℕ} → 0 < n → length (cellsOf n at s) ≡ n → k ≡ leAt 4 s (at + 4) → FirstCell s n at (at + 8 + k)
+pub first-cell : (s : List ℕ) → AreBytes s → (n at : ℕ) {k : ℕ} → 0 < n → length (cellsOf s n at) ≡ n → k ≡ leAt 4 s (at + 4) → FirstCell s n at (at + 8 + k)
 unfolding cellsOf records
 first-cell s B zero at z h q = absurd (omega arith)
 first-cell s B (suc n) at z h q = rw q (by-read (cellAt s at) refl h)
   where
-    by-read : (r : CellRead) → cellAt s at ≡ r → length (onCell (λ c. c ∷ cellsOf n (c .next) s) (λ kind. []) r) ≡ suc n → FirstCell s (suc n) at (at + 8 + leAt 4 s (at + 4))
+    by-read : (r : CellRead) → cellAt s at ≡ r → length (onCell (λ c. c ∷ cellsOf s n (c .next)) (λ kind. []) r) ≡ suc n → FirstCell s (suc n) at (at + 8 + leAt 4 s (at + 4))
     by-read (CellRead.Bad kind) e l = absurd (omega arith)
     by-read (CellRead.Got c) e l =
         let r = cell-record s at c B e in
         let m : suc n - 1 ≡ n = omega arith in
         let width = length-part at (c .next - at) s (omega (arith, r .low, r .inside)) in
-        let rest : records (rowsOf (suc n) at s) ≡ recordBytes 1 (part at (c .next - at) s) ++ records (rowsOf n (c .next) s) = rw (e, r .bytes) in
+        let rest : records (rowsOf s (suc n) at) ≡ recordBytes 1 (part at (c .next - at) s) ++ records (rowsOf s n (c .next)) = rw (e, r .bytes) in
         let size : length (recordBytes 1 (part at (c .next - at) s)) ≡ 6 + (c .next - at) = length-record 1 (part at (c .next - at) s) ∙ rw width in
         rw (← r .next)
         (record {
@@ -101,10 +101,10 @@ first-cell s B (suc n) at z h q = rw q (by-read (cellAt s at) refl h)
           rest = rw m rest;
           width = width;
           size = size;
-          long = rw m (ap length rest ∙ (length-append (recordBytes 1 (part at (c .next - at) s)) (records (rowsOf n (c .next) s)) ∙ rw size));
+          long = rw m (ap length rest ∙ (length-append (recordBytes 1 (part at (c .next - at) s)) (records (rowsOf s n (c .next))) ∙ rw size));
         })
 
-pub no-cells : (s : List ℕ) (n at : ℕ) → n ≤ 0 → records (rowsOf n at s) ≡ []
+pub no-cells : (s : List ℕ) (n at : ℕ) → n ≤ 0 → records (rowsOf s n at) ≡ []
 unfolding cellsOf records
 no-cells s zero at h = refl
 no-cells s (suc n) at h = absurd (omega arith)

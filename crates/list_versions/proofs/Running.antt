@@ -46,8 +46,8 @@ pub record Measures (run : Run) (rs : List Row) : Type 0 where
   pub few : 19 * run .count ≤ run .to - run .from
 
 pub record Gives (which : Which) (p : ℕ) (pg : List ℕ) (from count : ℕ) (last : Bool) : Type 0 where
-  pub all : length (cellsOf count from pg) ≡ count
-  pub same : rowsOf count from pg ≡ wanted which (rows pg)
+  pub all : length (cellsOf pg count from) ≡ count
+  pub same : rowsOf pg count from ≡ wanted which (rows pg)
   pub seen : (rs : List Row) → lookRows which rs p pg ≡ pick last (stop (rs ++ wanted which (rows pg))) (go (rs ++ wanted which (rows pg)))
 
 -- the run in a leaf whose cells end at e
@@ -55,20 +55,20 @@ abbrev theRun : Which → List ℕ → ℕ → Run
 theRun Which.All pg e = record { from = 12; to = e; count = cellCount pg }
 theRun (Which.Key key) pg e = foldCells (running key) (record { from = 12; to = 12; count = 0 }) (cells pg)
 
-told-is : (which : Which) (p : ℕ) (pg : List ℕ) → runOf which p pg ≡ onJudged (λ e. LeafRun.Ok (theRun which pg e) e (ends which (cells pg))) (λ f. LeafRun.Bad f) (judgeLeaf p pg)
+told-is : (which : Which) (p : ℕ) (pg : List ℕ) → runOf pg p which ≡ onJudged (λ e. LeafRun.Ok (theRun which pg e) e (ends which (cells pg))) (λ f. LeafRun.Bad f) (judgeLeaf pg p)
 unfolding runLeaf
 told-is Which.All p pg = refl
 told-is (Which.Key key) p pg = refl
 
-again-is : (which : Which) (p : ℕ) (pg : List ℕ) {e : ℕ} → judgeLeaf p pg ≡ Judged.Ok e
-    → againOf which p pg ≡ record { from = theRun which pg e .from; count = theRun which pg e .count; last = ends which (cells pg) }
+again-is : (which : Which) (p : ℕ) (pg : List ℕ) {e : ℕ} → judgeLeaf pg p ≡ Judged.Ok e
+    → againOf pg p which ≡ record { from = theRun which pg e .from; count = theRun which pg e .count; last = ends which (cells pg) }
 unfolding runLeaf
 again-is Which.All p pg j = refl
 again-is (Which.Key key) p pg j = rw j
 
 -- a leaf with a fault ends the walk
-pub run-broken : (which : Which) (p : ℕ) (pg : List ℕ) (rs : List Row) {r : LeafRun} {f : Fault} → r ≡ runOf which p pg → r ≡ LeafRun.Bad f → lookRows which rs p pg ≡ broken f
-run-broken which p pg rs {r} {f} q u = by-judged (judgeLeaf p pg) (sym (told-is which p pg) ∙ (sym q ∙ u))
+pub run-broken : (which : Which) (p : ℕ) (pg : List ℕ) (rs : List Row) {r : LeafRun} {f : Fault} → r ≡ runOf pg p which → r ≡ LeafRun.Bad f → lookRows which rs p pg ≡ broken f
+run-broken which p pg rs {r} {f} q u = by-judged (judgeLeaf pg p) (sym (told-is which p pg) ∙ (sym q ∙ u))
   where
     by-judged : (j : Judged) → onJudged (λ e. LeafRun.Ok (theRun which pg e) e (ends which (cells pg))) (λ g. LeafRun.Bad g) j ≡ LeafRun.Bad f
         → onJudged (λ e. pick (ends which (cells pg)) (stop (rs ++ wanted which (rows pg))) (go (rs ++ wanted which (rows pg)))) (λ g. broken g) j ≡ broken f
@@ -76,7 +76,7 @@ run-broken which p pg rs {r} {f} q u = by-judged (judgeLeaf p pg) (sym (told-is 
     by-judged (Judged.Bad g) w = cc
 
 module _ (which : Which) (p : ℕ) (pg : List ℕ) (B : AreBytes pg) (len : length pg ≡ 4096) where
-  module _ {e : ℕ} (judged : judgeLeaf p pg ≡ Judged.Ok e) where
+  module _ {e : ℕ} (judged : judgeLeaf pg p ≡ Judged.Ok e) where
     stands : (w : Which) → Stands pg (theRun w pg e) (wanted w (rows pg))
     stands Which.All =
         let a = judged-leaf p pg e judged in
@@ -99,19 +99,19 @@ module _ (which : Which) (p : ℕ) (pg : List ℕ) (B : AreBytes pg) (len : leng
     gives =
         let run = theRun which pg e in
         let h = stands which in
-        let b : cellsOf (run .count) (run .from) pg ≡ h .out = rw (← h .count) (chain-back pg (run .from) (h .out) (h .chain)) in
+        let b : cellsOf pg (run .count) (run .from) ≡ h .out = rw (← h .count) (chain-back pg (run .from) (h .out) (h .chain)) in
         record { all = ap length b ∙ h .count; same = ap (map (rowOf pg)) b ∙ sym (h .same); seen = λ rs. rw judged }
 
     -- what a second walk is told
-    pub gives-again : {a : Again} → a ≡ againOf which p pg → Gives which p pg (a .from) (a .count) (a .last)
+    pub gives-again : {a : Again} → a ≡ againOf pg p which → Gives which p pg (a .from) (a .count) (a .last)
     gives-again q = rw (q, again-is which p pg judged) gives
 
   -- what a first walk is told
-  pub run-told : {r : LeafRun} {run : Run} {e : ℕ} {last : Bool} → r ≡ runOf which p pg → r ≡ LeafRun.Ok run e last
+  pub run-told : {r : LeafRun} {run : Run} {e : ℕ} {last : Bool} → r ≡ runOf pg p which → r ≡ LeafRun.Ok run e last
       → Measures run (wanted which (rows pg)) × Gives which p pg (run .from) (run .count) last
-  run-told {r} {run} {e} {last} q u = by-judged (judgeLeaf p pg) refl (sym (told-is which p pg) ∙ (sym q ∙ u))
+  run-told {r} {run} {e} {last} q u = by-judged (judgeLeaf pg p) refl (sym (told-is which p pg) ∙ (sym q ∙ u))
     where
-      by-judged : (j : Judged) → judgeLeaf p pg ≡ j → onJudged (λ d. LeafRun.Ok (theRun which pg d) d (ends which (cells pg))) (λ g. LeafRun.Bad g) j ≡ LeafRun.Ok run e last
+      by-judged : (j : Judged) → judgeLeaf pg p ≡ j → onJudged (λ d. LeafRun.Ok (theRun which pg d) d (ends which (cells pg))) (λ g. LeafRun.Bad g) j ≡ LeafRun.Ok run e last
           → Measures run (wanted which (rows pg)) × Gives which p pg (run .from) (run .count) last
       by-judged (Judged.Bad g) t w = absurd (let z : _≡_ {A = ℕ} 0 1 = cc in omega arith)
       by-judged (Judged.Ok d) t w =

@@ -22,7 +22,7 @@ ends (Which.Key key) cs = hasLarger key cs
 -- what one leaf adds
 abbrev pub lookRows : Which → List Row → ℕ → List ℕ → Seen (List Row)
 lookRows w rs p pg =
-    onJudged (λ e. pick (ends w (cells pg)) (stop (rs ++ wanted w (rows pg))) (go (rs ++ wanted w (rows pg)))) (λ f. broken f) (judgeLeaf p pg)
+    onJudged (λ e. pick (ends w (cells pg)) (stop (rs ++ wanted w (rows pg))) (go (rs ++ wanted w (rows pg)))) (λ f. broken f) (judgeLeaf pg p)
 
 -- the rows along the chain from page p on, or the first fault
 unfoldable pub rowsAlong : List ℕ → (used p : ℕ) → Which → Told (List Row)

@@ -40,7 +40,7 @@ pub struct Again {
 
 fn run_of(pg: &[u8], which: Which, p: u32) -> LeafRun
     requires { ⌜ length (now pg) ≡ 4096 ⌝ }
-    ensures { λ r. ⌜ r ≡ runOf which p (now (pg .entry)) ⌝ }
+    ensures { λ r. ⌜ r ≡ runOf (now (pg .entry)) p which ⌝ }
 {
     match which {
         Which::Key(key) => leaf::find::run_in_leaf(pg, p, key),
@@ -94,7 +94,7 @@ pub fn size_along(pool: &[u8], which: Which, used: u32, first: u32) -> ChainSize
 // Where the run of a leaf stands that was judged before: all cells need no second look.
 fn run_again(pg: &[u8], which: Which, p: u32) -> Again
     requires { ⌜ length (now pg) ≡ 4096 ⌝ }
-    ensures { λ r. ⌜ r ≡ againOf which p (now (pg .entry)) ⌝ }
+    ensures { λ r. ⌜ r ≡ againOf (now (pg .entry)) p which ⌝ }
 {
     match which {
         Which::All => Again {
@@ -119,9 +119,9 @@ fn run_again(pg: &[u8], which: Which, p: u32) -> Again
 
 // Records of so many cells of the page, at offset o; answers where they end. A cell tells its own length.
 fn write_run(out: &mut [u8], pg: &[u8], o: usize, from: usize, count: usize) -> usize
-    requires { ⌜ (length (now pg) ≡ 4096) × (length (cellsOf count from (now pg)) ≡ count) × (o + length (records (rowsOf count from (now pg))) ≤ length (now out)) ⌝ }
-    ensures { λ r. ⌜ r ≡ o + length (records (rowsOf count from (now (pg .entry)))) ⌝ }
-    ensures { λ _. ⌜ now (out .exit) ≡ put o (records (rowsOf count from (now (pg .entry)))) (now (out .entry)) ⌝ }
+    requires { ⌜ (length (now pg) ≡ 4096) × (length (cellsOf (now pg) count from) ≡ count) × (o + length (records (rowsOf (now pg) count from)) ≤ length (now out)) ⌝ }
+    ensures { λ r. ⌜ r ≡ o + length (records (rowsOf (now (pg .entry)) count from)) ⌝ }
+    ensures { λ _. ⌜ now (out .exit) ≡ put o (records (rowsOf (now (pg .entry)) count from)) (now (out .entry)) ⌝ }
 {
     let mut at = from;
     let mut to = o;

@@ -35,41 +35,41 @@ module _ {r x : ChainBound} (said : r ≡ x) where
 
 -- a record takes less than twice its cell's bytes
 module _ (p : ℕ) (s : List ℕ) where
-  fold-few : (n at : ℕ) (b : Bound) → at ≤ 4096 → foldCells boundCell b (cellsOf n at (page p s)) .size + at * 2 ≤ b .size + 8192
+  fold-few : (n at : ℕ) (b : Bound) → at ≤ 4096 → foldCells boundCell b (cellsOf (page s p) n at) .size + at * 2 ≤ b .size + 8192
   unfolding cellsOf foldCells
   fold-few zero at b h = omega arith
-  fold-few (suc n) at b h = by-read (cellAt (page p s) at) refl (λ c. fold-few n (c .next) (boundCell b c))
+  fold-few (suc n) at b h = by-read (cellAt (page s p) at) refl (λ c. fold-few n (c .next) (boundCell b c))
     where
-      by-read : (r : CellRead) → cellAt (page p s) at ≡ r
-          → ((c : Cell) → c .next ≤ 4096 → foldCells boundCell (boundCell b c) (cellsOf n (c .next) (page p s)) .size + c .next * 2 ≤ boundCell b c .size + 8192)
-          → foldCells boundCell b (onCell (λ c. c ∷ cellsOf n (c .next) (page p s)) (λ kind. []) r) .size + at * 2 ≤ b .size + 8192
+      by-read : (r : CellRead) → cellAt (page s p) at ≡ r
+          → ((c : Cell) → c .next ≤ 4096 → foldCells boundCell (boundCell b c) (cellsOf (page s p) n (c .next)) .size + c .next * 2 ≤ boundCell b c .size + 8192)
+          → foldCells boundCell b (onCell (λ c. c ∷ cellsOf (page s p) n (c .next)) (λ kind. []) r) .size + at * 2 ≤ b .size + 8192
       by-read (CellRead.Bad kind) e ih = omega arith
       by-read (CellRead.Got c) e ih =
-          let a = cell-placed (page p s) at c e in
+          let a = cell-placed (page s p) at c e in
           let l = page-short p s in
           let low : at + 19 ≤ c .next = omega (arith, a .past-head, a .whole) in
           let i = ih c (omega (arith, a .inside)) in
           omega (arith, a .here, i)
 
-  fold-more : (b : Bound) → foldCells boundCell b (cells (page p s)) .size ≤ b .size + 8192
-  fold-more b = omega (arith, fold-few (cellCount (page p s)) 12 b (omega arith))
+  fold-more : (b : Bound) → foldCells boundCell b (cells (page s p)) .size ≤ b .size + 8192
+  fold-more b = omega (arith, fold-few (cellCount (page s p)) 12 b (omega arith))
 
   -- after one leaf
-  pub leaf-more : (b : Bound) {pg : List ℕ} {r : ChainBound} {d : Bound} → pg ≡ page p s → r ≡ boundLeaf p b pg → r ≡ ChainBound.Ok d → d .size ≤ b .size + 8192
+  pub leaf-more : (b : Bound) {pg : List ℕ} {r : ChainBound} {d : Bound} → pg ≡ page s p → r ≡ boundLeaf p b pg → r ≡ ChainBound.Ok d → d .size ≤ b .size + 8192
   unfolding boundLeaf
-  leaf-more b {pg} {r} {d} here e q = by-judged (judgeLeaf p (page p s)) (sym (rw here at e) ∙ q)
+  leaf-more b {pg} {r} {d} here e q = by-judged (judgeLeaf (page s p) p) (sym (rw here at e) ∙ q)
     where
-      by-judged : (j : Judged) → onJudged (λ i. ChainBound.Ok (foldCells boundCell b (cells (page p s)))) (λ f. ChainBound.Bad f) j ≡ ChainBound.Ok d → d .size ≤ b .size + 8192
-      by-judged (Judged.Ok i) u = let same : foldCells boundCell b (cells (page p s)) ≡ d = cc in rw same at (fold-more b)
+      by-judged : (j : Judged) → onJudged (λ i. ChainBound.Ok (foldCells boundCell b (cells (page s p)))) (λ f. ChainBound.Bad f) j ≡ ChainBound.Ok d → d .size ≤ b .size + 8192
+      by-judged (Judged.Ok i) u = let same : foldCells boundCell b (cells (page s p)) ≡ d = cc in rw same at (fold-more b)
       by-judged (Judged.Bad f) u = absurd (let z : _≡_ {A = ℕ} 0 1 = cc in omega arith)
 
 -- the walk judges, and bounds the cells
-pub judging-bound : (s : List ℕ) → Judging lookBound (λ p b. foldCells boundCell b (cells (page p s))) s
+pub judging-bound : (s : List ℕ) → Judging lookBound (λ p b. foldCells boundCell b (cells (page s p))) s
 unfolding boundLeaf
-judging-bound s b p = by-judged (judgeLeaf p (page p s))
+judging-bound s b p = by-judged (judgeLeaf (page s p) p)
   where
     after : Bound
-    after = foldCells boundCell b (cells (page p s))
+    after = foldCells boundCell b (cells (page s p))
 
     by-judged : (j : Judged) → seenBound (onJudged (λ e. ChainBound.Ok after) (λ f. ChainBound.Bad f) j) ≡ onJudged (λ e. go after) (λ f. broken f) j
     by-judged (Judged.Ok e) = refl
@@ -80,7 +80,7 @@ pub along-few : (used p : ℕ) (s : List ℕ) {b : Bound} → boundAlong s used 
 unfolding boundAlong
 along-few used p s {b} e =
     by-told (along s used p lookBound used startBound) e
-    (in-step lookBound lookBound (λ q a. foldCells boundCell a (cells (page q s))) (λ q a. foldCells boundCell a (cells (page q s))) used s (judging-bound s) (judging-bound s)
+    (in-step lookBound lookBound (λ q a. foldCells boundCell a (cells (page s q))) (λ q a. foldCells boundCell a (cells (page s q))) used s (judging-bound s) (judging-bound s)
     (λ m a d. a .size + m * 8192 ≤ used * 8192) (λ a d. a .size ≤ used * 8192) (λ m a d h. omega arith) (λ m q a d h k. omega (arith, fold-more q s a)) used p startBound startBound (omega arith))
   where
     by-told : (t : Told Bound) → toldBound t ≡ ChainBound.Ok b → Alike (λ (a : Bound) (d : Bound). a .size ≤ used * 8192) t t → b .size ≤ used * 8192

@@ -66,7 +66,7 @@ never-falls rs r e = by-test (falling 0 rs) (ltb (r .key) (lastOf 0 rs)) refl (s
 -- ---- the pass
 
 module _ (s : List ℕ) (B : AreBytes s) (used : ℕ) (room : used * 4096 ≤ length s) where
-  row-long : (p : ℕ) (c : Cell) → p < used → cellAt (page p s) (c .at) ≡ CellRead.Got c → length (records (rowOf (page p s) c ∷ [])) ≡ 6 + (c .next - c .at)
+  row-long : (p : ℕ) (c : Cell) → p < used → cellAt (page s p) (c .at) ≡ CellRead.Got c → length (records (rowOf (page s p) c ∷ [])) ≡ 6 + (c .next - c .at)
   row-long p c h e =
       let a = cell-whole p c s e in
       ap length (cell-record p c s e B) ∙ (length-record 1 _ ∙ ap (λ (n : ℕ). 6 + n) (length-part (p * 4096 + c .at) (c .next - c .at) s (omega (arith, a .0, a .1))))
@@ -76,9 +76,9 @@ module _ (s : List ℕ) (B : AreBytes s) (used : ℕ) (room : used * 4096 ≤ le
     size : b .size ≡ length (records rs)
     falls : b .falls ≡ falling 0 rs
 
-  bounds-more : (p : ℕ) (c : Cell) (rs : List Row) (b : Bound) → p < used → cellAt (page p s) (c .at) ≡ CellRead.Got c → Bounds rs b → Bounds (rs ++ (rowOf (page p s) c ∷ [])) (boundCell b c)
+  bounds-more : (p : ℕ) (c : Cell) (rs : List Row) (b : Bound) → p < used → cellAt (page s p) (c .at) ≡ CellRead.Got c → Bounds rs b → Bounds (rs ++ (rowOf (page s p) c ∷ [])) (boundCell b c)
   bounds-more p c rs b h e k =
-      let r = rowOf (page p s) c in
+      let r = rowOf (page s p) c in
       record {
         last = sym (last-snoc 0 rs r);
         size = rw (records-append rs (r ∷ []), length-append, row-long p c h e) (ap (λ (n : ℕ). n + (6 + (c .next - c .at))) (k .size));

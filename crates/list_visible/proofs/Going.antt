@@ -29,13 +29,13 @@ pub record Going (p n at : ℕ) (pg : List ℕ) : Type 0 where
   key : ℕ
   creator : ℕ
   end : ℕ
-  judged : judgeCells p key creator n at pg ≡ Judged.Ok end
+  judged : judgeCells pg p key creator n at ≡ Judged.Ok end
 
 pub going-start : (p : ℕ) (pg : List ℕ) → WasJudged p pg → Going p (cellCount pg) 12 pg
 unfolding judgeLeaf
 going-start p pg d = by-type (eqb (nodeType pg) 1) (d .judged)
   where
-    by-type : (b : Bool) → pick b (judgeCells p 0 0 (cellCount pg) 12 pg) (Judged.Bad (structural p)) ≡ Judged.Ok (d .end) → Going p (cellCount pg) 12 pg
+    by-type : (b : Bool) → pick b (judgeCells pg p 0 0 (cellCount pg) 12) (Judged.Bad (structural p)) ≡ Judged.Ok (d .end) → Going p (cellCount pg) 12 pg
     by-type true w = record { key = 0; creator = 0; end = d .end; judged = w }
     by-type false w = absurd (let z : _≡_ {A = ℕ} 0 1 = cc in omega arith)
 
@@ -48,16 +48,16 @@ pub record Turn (p n at : ℕ) (pg : List ℕ) : Type 0 where
   pub low : at + 19 ≤ cell .next
   pub stamp-in : at + 8 + 9 + stampSize (leAt 1 pg (at + 8 + 9)) ≤ cell .next
   pub inside : cell .next ≤ length pg
-  pub more : cellsOf n at pg ≡ cell ∷ cellsOf (n - 1) (cell .next) pg
+  pub more : cellsOf pg n at ≡ cell ∷ cellsOf pg (n - 1) (cell .next)
   pub going : Going p (n - 1) (cell .next) pg
 
 pub next-turn : (p n at : ℕ) (pg : List ℕ) → 0 < n → Going p n at pg → Turn p n at pg
 unfolding judgeCells cellsOf
 next-turn p zero at pg h g = absurd (omega arith)
-next-turn p (suc n) at pg h g = by-step (stepOf p (g .key) (g .creator) at pg) refl (g .judged)
+next-turn p (suc n) at pg h g = by-step (stepOf pg p (g .key) (g .creator) at) refl (g .judged)
   where
-    by-step : (r : Step) → stepOf p (g .key) (g .creator) at pg ≡ r
-        → onStep (λ x. judgeCells p (x .key) (x .version .creator) n (x .next) pg) (λ f. Judged.Bad f) r ≡ Judged.Ok (g .end) → Turn p (suc n) at pg
+    by-step : (r : Step) → stepOf pg p (g .key) (g .creator) at ≡ r
+        → onStep (λ x. judgeCells pg p (x .key) (x .version .creator) n (x .next)) (λ f. Judged.Bad f) r ≡ Judged.Ok (g .end) → Turn p (suc n) at pg
     by-step (Step.Bad f) q w = absurd (let z : _≡_ {A = ℕ} 0 1 = cc in omega arith)
     by-step (Step.Got x) q w =
         let t = step-cell pg p (g .key) (g .creator) at (sym q) refl .0 in

@@ -29,7 +29,7 @@ use Rattle.list_visible.proofs.Falling.{lastOf}
 use Rattle.list_visible.proofs.Pushing.{VersionIs, lists-none, lists-all, Kept, step-kept, skip-kept}
 
 -- a cell by its place in the pool is its row
-version-is : (p : ℕ) (c : Cell) (s : List ℕ) → AreBytes s → cellAt (page p s) (c .at) ≡ CellRead.Got c → VersionIs s (chosenOf p c) (rowOf (page p s) c)
+version-is : (p : ℕ) (c : Cell) (s : List ℕ) → AreBytes s → cellAt (page s p) (c .at) ≡ CellRead.Got c → VersionIs s (chosenOf p c) (rowOf (page s p) c)
 version-is p c s B e =
     let n : p * 4096 + c .next - (p * 4096 + c .at) ≡ c .next - c .at = omega arith in
     record { key-is = refl; creator-is = refl; bytes-are = cell-record p c s e B ∙ ap (λ (k : ℕ). recordBytes 1 (part (p * 4096 + c .at) k s)) (sym n) }
@@ -47,20 +47,20 @@ module _ (sn : Snapshot) (st : ℕ → ℕ) (s : List ℕ) where
       gathered p cs (gather p a x)
       ∙ rw (append-assoc (a .bytes) (pushed sn st p (a .scan) x s) (pushedAll sn st p (scanned sn st p (a .scan) x) cs s))
 
-  judging-pass : Judging (lookPass s sn st) (λ p a. foldCells (gather p) a (cells (page p s))) s
+  judging-pass : Judging (lookPass s sn st) (λ p a. foldCells (gather p) a (cells (page s p))) s
   unfolding scanLeaf
-  judging-pass a p = rw (gathered p (cells (page p s)) a)
+  judging-pass a p = rw (gathered p (cells (page s p)) a)
 
   module _ (used : ℕ) (B : AreBytes s) where
     abbrev Held : List Row → Pass → Type 0
     Held rs a = Kept s rs (scanRows sn st rs) (a .scan .wait) (a .bytes)
 
-    held-more : (p : ℕ) (c : Cell) (rs : List Row) (a : Pass) → p < used → cellAt (page p s) (c .at) ≡ CellRead.Got c → Held rs a → Held (rs ++ (rowOf (page p s) c ∷ [])) (gather p a c)
+    held-more : (p : ℕ) (c : Cell) (rs : List Row) (a : Pass) → p < used → cellAt (page s p) (c .at) ≡ CellRead.Got c → Held rs a → Held (rs ++ (rowOf (page s p) c ∷ [])) (gather p a c)
     unfolding scanned pushed
     held-more p c rs a h e k = rw (scan-snoc sn st rs r) (by-seen (visible sn st (c .version .creator) (c .version .stamp)))
       where
         r : Row
-        r = rowOf (page p s) c
+        r = rowOf (page s p) c
 
         chosen : List Row
         chosen = scanRows sn st rs

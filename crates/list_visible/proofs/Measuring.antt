@@ -57,23 +57,23 @@ module _ (sn : Snapshot) (st : ℕ → ℕ) (p : ℕ) where
   -- with n cells left, from `at` on
   pub record Measuring (goal : Scan) (first : ℕ) (pg : List ℕ) (n at : ℕ) (sc : Scan) : Type 0 where
     pub going : Going p n at pg
-    pub same : foldCells (scanned sn st p) sc (cellsOf n at pg) ≡ goal
+    pub same : foldCells (scanned sn st p) sc (cellsOf pg n at) ≡ goal
     pub whole : Whole (sc .wait)
     pub small : sc .size ≤ first + at * 4102
     pub within : at ≤ 4096
 
-  pub measuring-start : (s : List ℕ) (sc : Scan) {pg : List ℕ} {n : ℕ} → pg ≡ page p s → n ≡ cellCount pg → WasJudged p (page p s) → Whole (sc .wait)
-      → Measuring (scanLeaf (page p s) p sn st sc) (sc .size) pg n 12 sc
+  pub measuring-start : (s : List ℕ) (sc : Scan) {pg : List ℕ} {n : ℕ} → pg ≡ page s p → n ≡ cellCount pg → WasJudged p (page s p) → Whole (sc .wait)
+      → Measuring (scanLeaf (page s p) p sn st sc) (sc .size) pg n 12 sc
   unfolding scanLeaf
   measuring-start s sc here count d w =
-      rw (count, here) (record { going = going-start p (page p s) d; same = refl; whole = w; small = omega arith; within = omega arith })
+      rw (count, here) (record { going = going-start p (page s p) d; same = refl; whole = w; small = omega arith; within = omega arith })
 
   module _ {goal : Scan} {first : ℕ} {pg : List ℕ} {n at : ℕ} {sc : Scan} (w : Measuring goal first pg n at sc) where
     pub measuring-end : n ≤ 0 → sc ≡ goal
     unfolding cellsOf foldCells
     measuring-end h = over n h (w .same)
       where
-        over : (k : ℕ) → k ≤ 0 → foldCells (scanned sn st p) sc (cellsOf k at pg) ≡ goal → sc ≡ goal
+        over : (k : ℕ) → k ≤ 0 → foldCells (scanned sn st p) sc (cellsOf pg k at) ≡ goal → sc ≡ goal
         over zero l e = e
         over (suc k) l e = absurd (omega arith)
 

@@ -39,16 +39,16 @@ module _ (sn : Snapshot) (st : ℕ → ℕ) (used : ℕ) (s : List ℕ) where
     size : foldCells (scanned sn st p) sc xs .size ≡ sc .size + length (pushedAll sn st p sc xs s)
     small : foldCells (scanned sn st p) sc xs .size + at * 4102 ≤ sc .size + 16801792
 
-  leaf-after : (p : ℕ) → p < used → used * 4096 ≤ length s → (n at : ℕ) (sc : Scan) → at ≤ 4096 → Waits (sc .wait) s → LeafAfter p at sc (cellsOf n at (page p s))
+  leaf-after : (p : ℕ) → p < used → used * 4096 ≤ length s → (n at : ℕ) (sc : Scan) → at ≤ 4096 → Waits (sc .wait) s → LeafAfter p at sc (cellsOf (page s p) n at)
   unfolding cellsOf foldCells pushedAll
   leaf-after p h room zero at sc l w = record { waits = w; size = omega arith; small = omega arith }
-  leaf-after p h room (suc n) at sc l w = by-read (cellAt (page p s) at) refl (λ c d k v. leaf-after p h room n (c .next) d k v)
+  leaf-after p h room (suc n) at sc l w = by-read (cellAt (page s p) at) refl (λ c d k v. leaf-after p h room n (c .next) d k v)
     where
-      by-read : (r : CellRead) → cellAt (page p s) at ≡ r → ((c : Cell) (d : Scan) → c .next ≤ 4096 → Waits (d .wait) s → LeafAfter p (c .next) d (cellsOf n (c .next) (page p s)))
-          → LeafAfter p at sc (onCell (λ c. c ∷ cellsOf n (c .next) (page p s)) (λ kind. []) r)
+      by-read : (r : CellRead) → cellAt (page s p) at ≡ r → ((c : Cell) (d : Scan) → c .next ≤ 4096 → Waits (d .wait) s → LeafAfter p (c .next) d (cellsOf (page s p) n (c .next)))
+          → LeafAfter p at sc (onCell (λ c. c ∷ cellsOf (page s p) n (c .next)) (λ kind. []) r)
       by-read (CellRead.Bad kind) e ih = record { waits = w; size = omega arith; small = omega arith }
       by-read (CellRead.Got c) e ih =
-          let a = cell-placed (page p s) at c e in
+          let a = cell-placed (page s p) at c e in
           let m = page-short p s in
           let low : at + 19 ≤ c .next = omega (arith, a .past-head, a .whole) in
           let d = scanned sn st p sc c in
@@ -64,38 +64,38 @@ module _ (sn : Snapshot) (st : ℕ → ℕ) (used : ℕ) (s : List ℕ) where
 
   abbrev after : ℕ → Pass → Pass
   after p a =
-      record { scan = scanLeaf (page p s) p sn st (a .scan); bytes = a .bytes ++ pushedAll sn st p (a .scan) (cells (page p s)) s }
+      record { scan = scanLeaf (page s p) p sn st (a .scan); bytes = a .bytes ++ pushedAll sn st p (a .scan) (cells (page s p)) s }
 
   record FirstLeaf (p : ℕ) (a e : Pass) : Type 0 where
     in-use : p < used
-    sound : WasJudged p (page p s)
-    judged : lookPass s sn st a p (page p s) ≡ go (after p a)
-    grows : length (a .bytes) + length (pushedAll sn st p (a .scan) (cells (page p s)) s) ≤ length (e .bytes)
+    sound : WasJudged p (page s p)
+    judged : lookPass s sn st a p (page s p) ≡ go (after p a)
+    grows : length (a .bytes) + length (pushedAll sn st p (a .scan) (cells (page s p)) s) ≤ length (e .bytes)
 
   first-leaf : (m : ℕ) (a : Pass) (p : ℕ) {e : Pass} → along s used p (lookPass s sn st) m a ≡ ok e → FirstLeaf p a e
   unfolding along
   first-leaf zero a p q = absurd (let z : _≡_ {A = ℕ} 0 1 = cc in omega arith)
   first-leaf (suc m) a p {e} q =
-      by-cases (ltb p used) refl (judgeLeaf p (page p s)) refl (eqb (nextLeaf (page p s)) 0) q (λ u. first-leaf m (after p a) (nextLeaf (page p s)) u)
+      by-cases (ltb p used) refl (judgeLeaf (page s p) p) refl (eqb (nextLeaf (page s p)) 0) q (λ u. first-leaf m (after p a) (nextLeaf (page s p)) u)
     where
       more : ℕ
-      more = length (pushedAll sn st p (a .scan) (cells (page p s)) s)
+      more = length (pushedAll sn st p (a .scan) (cells (page s p)) s)
 
-      by-cases : (t : Bool) → ltb p used ≡ t → (j : Judged) → judgeLeaf p (page p s) ≡ j → (z : Bool)
+      by-cases : (t : Bool) → ltb p used ≡ t → (j : Judged) → judgeLeaf (page s p) p ≡ j → (z : Bool)
           → pick t
-          (onSeen (λ b. ok b) (λ b. pick z (ok b) (along s used (nextLeaf (page p s)) (lookPass s sn st) m b)) (λ f. ill f) (onJudged (λ i. go (after p a)) (λ f. broken f) j))
+          (onSeen (λ b. ok b) (λ b. pick z (ok b) (along s used (nextLeaf (page s p)) (lookPass s sn st) m b)) (λ f. ill f) (onJudged (λ i. go (after p a)) (λ f. broken f) j))
           (ill (structural p))
           ≡ ok e
-          → (along s used (nextLeaf (page p s)) (lookPass s sn st) m (after p a) ≡ ok e → FirstLeaf (nextLeaf (page p s)) (after p a) e)
+          → (along s used (nextLeaf (page s p)) (lookPass s sn st) m (after p a) ≡ ok e → FirstLeaf (nextLeaf (page s p)) (after p a) e)
           → FirstLeaf p a e
       by-cases false t j i z u ih = absurd (let z : _≡_ {A = ℕ} 0 1 = cc in omega arith)
       by-cases true t (Judged.Bad f) i z u ih = absurd (let z : _≡_ {A = ℕ} 0 1 = cc in omega arith)
       by-cases true t (Judged.Ok n) i true u ih =
           let same : after p a ≡ e = cc in
-          let l : length (e .bytes) ≡ length (a .bytes) + more = ap (λ (b : Pass). length (b .bytes)) (sym same) ∙ length-append (a .bytes) (pushedAll sn st p (a .scan) (cells (page p s)) s) in
+          let l : length (e .bytes) ≡ length (a .bytes) + more = ap (λ (b : Pass). length (b .bytes)) (sym same) ∙ length-append (a .bytes) (pushedAll sn st p (a .scan) (cells (page s p)) s) in
           record { in-use = ltb-true p used t; sound = record { end = n; judged = i }; judged = rw i; grows = omega arith }
       by-cases true t (Judged.Ok n) i false u ih =
-          let l = length-append (a .bytes) (pushedAll sn st p (a .scan) (cells (page p s)) s) in
+          let l = length-append (a .bytes) (pushedAll sn st p (a .scan) (cells (page s p)) s) in
           record { in-use = ltb-true p used t; sound = record { end = n; judged = i }; judged = rw i; grows = omega (arith, ih u .grows) }
 
   -- ---- the loop along the chain
@@ -126,7 +126,7 @@ module _ (sn : Snapshot) (st : ℕ → ℕ) (used : ℕ) (s : List ℕ) where
       pub passing-in : p < used
       passing-in = leaf .in-use
 
-      pub passing-sound : WasJudged p (page p s)
+      pub passing-sound : WasJudged p (page s p)
       passing-sound = leaf .sound
 
       pub passing-over : m ≤ 0 → ⊥
@@ -138,11 +138,11 @@ module _ (sn : Snapshot) (st : ℕ → ℕ) (used : ℕ) (s : List ℕ) where
           over (suc k) l u = omega arith
 
       -- with the leaf's records there are not more than all
-      pub passing-grows : sc .size + length (pushedAll sn st p sc (cells (page p s)) s) ≤ length (passBytes s (passAlong s used first sn st))
+      pub passing-grows : sc .size + length (pushedAll sn st p sc (cells (page s p)) s) ≤ length (passBytes s (passAlong s used first sn st))
       passing-grows = omega (arith, leaf .grows, whole, w .size)
 
       -- after the leaf
-      module _ {d : Scan} (room : used * 4096 ≤ length s) (e : d ≡ scanLeaf (page p s) p sn st sc) where
+      module _ {d : Scan} (room : used * 4096 ≤ length s) (e : d ≡ scanLeaf (page s p) p sn st sc) where
         abbrev step : Pass
         step = after p (record { scan = sc; bytes = w .bytes })
 
@@ -154,15 +154,15 @@ module _ (sn : Snapshot) (st : ℕ → ℕ) (used : ℕ) (s : List ℕ) where
         left-is : Left
         unfolding scanLeaf
         left-is =
-            let l = leaf-after p (leaf .in-use) room (cellCount (page p s)) 12 sc (omega arith) (w .waits) in
-            let k = length-append (w .bytes) (pushedAll sn st p sc (cells (page p s)) s) in
+            let l = leaf-after p (leaf .in-use) room (cellCount (page s p)) 12 sc (omega arith) (w .waits) in
+            let k = length-append (w .bytes) (pushedAll sn st p sc (cells (page s p)) s) in
             let n = ap (λ (x : Scan). x .size) e in
             record { size-is = n ∙ (l .size ∙ rw k (omega (arith, w .size))); waits-is = rw e (l .waits); small-is = omega (arith, n, l .small) }
 
-        looked : lookPass s sn st (record { scan = sc; bytes = w .bytes }) p (page p s) ≡ go (record { scan = d; bytes = step .bytes })
+        looked : lookPass s sn st (record { scan = sc; bytes = w .bytes }) p (page s p) ≡ go (record { scan = d; bytes = step .bytes })
         looked = leaf .judged ∙ rw e
 
-        module _ {pg : List ℕ} {n : ℕ} (left : 0 < m) (here : pg ≡ page p s) (next : n ≡ nextLeaf pg) where
+        module _ {pg : List ℕ} {n : ℕ} (left : 0 < m) (here : pg ≡ page s p) (next : n ≡ nextLeaf pg) where
           pub passing-on : (n ≡ 0 → ⊥) → Passing (m - 1) n d
           passing-on z =
               record {
@@ -206,30 +206,30 @@ module _ (sn : Snapshot) (st : ℕ → ℕ) (used : ℕ) (s : List ℕ) where
       putting-long : length out ≡ length out₀
       putting-long = ap length (w .so-far) ∙ length-put 0 (w .passing .bytes) out₀ (omega (arith, passing-grows first (fits .through) (w .passing), fits .room, w .passing .size))
 
-      pub putting-room : sc .size + length (pushedAll sn st p sc (cells (page p s)) s) ≤ length out
+      pub putting-room : sc .size + length (pushedAll sn st p sc (cells (page s p)) s) ≤ length out
       putting-room = omega (arith, passing-grows first (fits .through) (w .passing), fits .room, putting-long)
 
-      pub putting-few : sc .size + length (pushedAll sn st p sc (cells (page p s)) s) ≤ 9223372036854775807
+      pub putting-few : sc .size + length (pushedAll sn st p sc (cells (page s p)) s) ≤ 9223372036854775807
       putting-few = omega (arith, passing-grows first (fits .through) (w .passing), fits .through .few)
 
       -- after the leaf
       module _ {d : Scan} {t : List ℕ} (room : used * 4096 ≤ length s) (e : written d t ≡ passLeaf s p sn st sc out) where
-        scan-is : d ≡ scanLeaf (page p s) p sn st sc
+        scan-is : d ≡ scanLeaf (page s p) p sn st sc
         unfolding passLeaf
         scan-is = ap (λ (y : Written Scan). y .answer) e
 
         abbrev bytes-now : List ℕ
-        bytes-now = w .passing .bytes ++ pushedAll sn st p sc (cells (page p s)) s
+        bytes-now = w .passing .bytes ++ pushedAll sn st p sc (cells (page s p)) s
 
         out-is : t ≡ put 0 bytes-now out₀
         unfolding passLeaf
         out-is =
-            let y = pushedAll sn st p sc (cells (page p s)) s in
+            let y = pushedAll sn st p sc (cells (page s p)) s in
             let b : t ≡ put (sc .size) y out = ap (λ (z : Written Scan). z .output) e in
             let n : sc .size ≡ 0 + length (w .passing .bytes) = omega (arith, w .passing .size) in
             b ∙ (ap (λ (x : List ℕ). put (sc .size) y x) (w .so-far) ∙ put-after-at 0 (sc .size) (w .passing .bytes) y out₀ (omega arith) n)
 
-        module _ {pg : List ℕ} {n : ℕ} (left : 0 < m) (here : pg ≡ page p s) (next : n ≡ nextLeaf pg) where
+        module _ {pg : List ℕ} {n : ℕ} (left : 0 < m) (here : pg ≡ page s p) (next : n ≡ nextLeaf pg) where
           pub putting-on : (n ≡ 0 → ⊥) → Putting (m - 1) n d t
           unfolding passing-on
           putting-on z = record { passing = passing-on first (fits .through) (w .passing) room scan-is left here next z; so-far = out-is }

@@ -31,7 +31,7 @@ use Rattle.list_visible.proofs.Stepping.{length-wait, both}
 use Rattle.list_visible.proofs.Going.{Going, going-start, Turn, turn-visible, turn-chosen}
 use Rattle.list_visible.proofs.Measuring.{scanned-wait}
 
-pub cells-none : (at : ℕ) (pg : List ℕ) (n : ℕ) → n ≤ 0 → cellsOf n at pg ≡ []
+pub cells-none : (at : ℕ) (pg : List ℕ) (n : ℕ) → n ≤ 0 → cellsOf pg n at ≡ []
 unfolding cellsOf
 cells-none at pg zero h = refl
 cells-none at pg (suc n) h = absurd (omega arith)
@@ -39,9 +39,9 @@ cells-none at pg (suc n) h = absurd (omega arith)
 -- ---- what a cell does to what waits, and to the length
 
 -- a cell of a page in use
-pub cell-waits : (used p at : ℕ) (s : List ℕ) {x : Cell} → used * 4096 ≤ length s → p < used → cellAt (page p s) at ≡ CellRead.Got x → Waits (Wait.For (chosenOf p x)) s
+pub cell-waits : (used p at : ℕ) (s : List ℕ) {x : Cell} → used * 4096 ≤ length s → p < used → cellAt (page s p) at ≡ CellRead.Got x → Waits (Wait.For (chosenOf p x)) s
 cell-waits used p at s {x} room h e =
-    let a = cell-placed (page p s) at x e in
+    let a = cell-placed (page s p) at x e in
     let l = page-short p s in
     let low : x .at + 19 ≤ x .next = omega (arith, a .here, a .past-head, a .whole) in
     let high : x .next ≤ 4096 = omega (arith, a .inside) in
@@ -94,17 +94,17 @@ module _ (sn : Snapshot) (st : ℕ → ℕ) (p : ℕ) (s : List ℕ) where
     pub within : at ≤ 4096
     pub waits : Waits (sc .wait) s
     pub long : length out ≡ l
-    pub room : sc .size + length (pushedAll sn st p sc (cellsOf n at pg) s) ≤ l
-    pub few : sc .size + length (pushedAll sn st p sc (cellsOf n at pg) s) ≤ 9223372036854775807
-    pub same : written (foldCells (scanned sn st p) sc (cellsOf n at pg)) (put (sc .size) (pushedAll sn st p sc (cellsOf n at pg) s) out) ≡ goal
+    pub room : sc .size + length (pushedAll sn st p sc (cellsOf pg n at) s) ≤ l
+    pub few : sc .size + length (pushedAll sn st p sc (cellsOf pg n at) s) ≤ 9223372036854775807
+    pub same : written (foldCells (scanned sn st p) sc (cellsOf pg n at)) (put (sc .size) (pushedAll sn st p sc (cellsOf pg n at) s) out) ≡ goal
 
-  pub writing-start : (sc : Scan) (out : List ℕ) {pg : List ℕ} {n : ℕ} → pg ≡ page p s → n ≡ cellCount pg → WasJudged p (page p s) → Waits (sc .wait) s
-      → sc .size + length (pushedAll sn st p sc (cells (page p s)) s) ≤ length out
-      → sc .size + length (pushedAll sn st p sc (cells (page p s)) s) ≤ 9223372036854775807
+  pub writing-start : (sc : Scan) (out : List ℕ) {pg : List ℕ} {n : ℕ} → pg ≡ page s p → n ≡ cellCount pg → WasJudged p (page s p) → Waits (sc .wait) s
+      → sc .size + length (pushedAll sn st p sc (cells (page s p)) s) ≤ length out
+      → sc .size + length (pushedAll sn st p sc (cells (page s p)) s) ≤ 9223372036854775807
       → Writing (length out) (passLeaf s p sn st sc out) pg n 12 sc out
   unfolding passLeaf scanLeaf
   writing-start sc out here count d w r f =
-      rw (count, here) (record { going = going-start p (page p s) d; within = omega arith; waits = w; long = refl; room = r; few = f; same = refl })
+      rw (count, here) (record { going = going-start p (page s p) d; within = omega arith; waits = w; long = refl; room = r; few = f; same = refl })
 
   module _ {l : ℕ} {goal : Written Scan} {pg : List ℕ} {n at : ℕ} {sc : Scan} {out : List ℕ} (w : Writing l goal pg n at sc out) where
     pub writing-end : n ≤ 0 → written sc out ≡ goal
@@ -116,10 +116,10 @@ module _ (sn : Snapshot) (st : ℕ → ℕ) (p : ℕ) (s : List ℕ) where
       pushes = pushed sn st p sc (t .cell) s
 
       abbrev later : List ℕ
-      later = pushedAll sn st p (scanned sn st p sc (t .cell)) (cellsOf (n - 1) (t .cell .next) pg) s
+      later = pushedAll sn st p (scanned sn st p sc (t .cell)) (cellsOf pg (n - 1) (t .cell .next)) s
 
       -- what is pushed now comes first
-      split : pushedAll sn st p sc (cellsOf n at pg) s ≡ pushes ++ later
+      split : pushedAll sn st p sc (cellsOf pg n at) s ≡ pushes ++ later
       unfolding pushedAll
       split = rw (t .more)
 
@@ -136,7 +136,7 @@ module _ (sn : Snapshot) (st : ℕ → ℕ) (p : ℕ) (s : List ℕ) where
           let m = ap (λ (x : Chosen). length (pushedBy (sc .wait) x s)) (turn-chosen t e q) in
           omega (arith, fits, w .long, m, ap length is)
 
-      pub writing-turn : (used : ℕ) {end : ℕ} {d : Scan} {y : List ℕ} → used * 4096 ≤ length s → p < used → pg ≡ page p s → length pg ≡ 4096 → end ≡ at + 8 + leAt 4 pg (at + 4)
+      pub writing-turn : (used : ℕ) {end : ℕ} {d : Scan} {y : List ℕ} → used * 4096 ≤ length s → p < used → pg ≡ page s p → length pg ≡ 4096 → end ≡ at + 8 + leAt 4 pg (at + 4)
           → written d y ≡ written (scanned sn st p sc (t .cell)) (put (sc .size) pushes out) → Writing l goal pg (n - 1) end d y
       unfolding foldCells
       writing-turn used {end} {d} {y} room h here long e u =
@@ -147,7 +147,7 @@ module _ (sn : Snapshot) (st : ℕ → ℕ) (p : ℕ) (s : List ℕ) where
           let size : f .size ≡ sc .size + length pushes = scanned-size p s sc sn st (t .cell) (w .waits) in
           let k = length-append pushes later in
           let some : sc .size + length pushes ≤ length out = omega (arith, fits, w .long) in
-          let all : written (foldCells (scanned sn st p) f (cellsOf (n - 1) (t .cell .next) pg)) (put (sc .size) (pushes ++ later) out) ≡ goal
+          let all : written (foldCells (scanned sn st p) f (cellsOf pg (n - 1) (t .cell .next))) (put (sc .size) (pushes ++ later) out) ≡ goal
           = rw (split, t .more) at (w .same) in
           rw (next, a, b)
           (record {
@@ -157,5 +157,5 @@ module _ (sn : Snapshot) (st : ℕ → ℕ) (p : ℕ) (s : List ℕ) where
             long = length-put (sc .size) pushes out some ∙ w .long;
             room = omega (arith, fits, size);
             few = omega (arith, w .few, ap length split, size);
-            same = ap (λ (o : List ℕ). written (foldCells (scanned sn st p) f (cellsOf (n - 1) (t .cell .next) pg)) o) (put-after-at (sc .size) (f .size) pushes later out (omega arith) size) ∙ all;
+            same = ap (λ (o : List ℕ). written (foldCells (scanned sn st p) f (cellsOf pg (n - 1) (t .cell .next))) o) (put-after-at (sc .size) (f .size) pushes later out (omega arith) size) ∙ all;
           })

@@ -155,8 +155,8 @@ fn measure_leaf(
     states: &[u8],
     sc: Scan,
 ) -> Scan
-    requires { ⌜ (used * 4096 ≤ length (now pool)) × (p < used) × StatusesJudged (statuses (now ids) (now states)) × (rising (now active) ≡ true) × WasJudged p (page p (now pool)) × Whole (sc .wait) × (sc .size ≤ 4611686018427387904) ⌝ }
-    ensures { λ r. ⌜ r ≡ scanLeaf (page p (now (pool .entry))) p (snapshot xmax (now (active .entry)) cur) (lookup (statuses (now (ids .entry)) (now (states .entry)))) sc ⌝ }
+    requires { ⌜ (used * 4096 ≤ length (now pool)) × (p < used) × StatusesJudged (statuses (now ids) (now states)) × (rising (now active) ≡ true) × WasJudged p (page (now pool) p) × Whole (sc .wait) × (sc .size ≤ 4611686018427387904) ⌝ }
+    ensures { λ r. ⌜ r ≡ scanLeaf (page (now (pool .entry)) p) p (snapshot xmax (now (active .entry)) cur) (lookup (statuses (now (ids .entry)) (now (states .entry)))) sc ⌝ }
 {
     let pg = page::pool::page_of(pool, p);
     let base = p as usize * page::PAGE_SIZE;
@@ -220,7 +220,7 @@ fn write_leaf(
     out: &mut [u8],
     sc: Scan,
 ) -> Scan
-    requires { ⌜ (used * 4096 ≤ length (now pool)) × (p < used) × StatusesJudged (statuses (now ids) (now states)) × (rising (now active) ≡ true) × WasJudged p (page p (now pool)) × Waits (sc .wait) (now pool) × (sc .size + length (pushedAll (snapshot xmax (now active) cur) (lookup (statuses (now ids) (now states))) p sc (cells (page p (now pool))) (now pool)) ≤ length (now out)) × (sc .size + length (pushedAll (snapshot xmax (now active) cur) (lookup (statuses (now ids) (now states))) p sc (cells (page p (now pool))) (now pool)) ≤ 9223372036854775807) ⌝ }
+    requires { ⌜ (used * 4096 ≤ length (now pool)) × (p < used) × StatusesJudged (statuses (now ids) (now states)) × (rising (now active) ≡ true) × WasJudged p (page (now pool) p) × Waits (sc .wait) (now pool) × (sc .size + length (pushedAll (snapshot xmax (now active) cur) (lookup (statuses (now ids) (now states))) p sc (cells (page (now pool) p)) (now pool)) ≤ length (now out)) × (sc .size + length (pushedAll (snapshot xmax (now active) cur) (lookup (statuses (now ids) (now states))) p sc (cells (page (now pool) p)) (now pool)) ≤ 9223372036854775807) ⌝ }
     ensures { λ r. ⌜ written r (now (out .exit)) ≡ passLeaf (now (pool .entry)) p (snapshot xmax (now (active .entry)) cur) (lookup (statuses (now (ids .entry)) (now (states .entry)))) sc (now (out .entry)) ⌝ }
 {
     let pg = page::pool::page_of(pool, p);

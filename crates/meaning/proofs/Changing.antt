@@ -111,7 +111,7 @@ module _ (g : Grown) (t : Shape) (tree : TreeIn g t) where
 
     module _ (p : ℕ) (c : Cell) (here : Standing v key s t p c) where
       abbrev row : Row
-      row = rowOf (page p s) c
+      row = rowOf (page s p) c
 
       stamp-room : (b : Bool) → eqb (stampRoom g t tree v key p c here) 0 ≡ b
           → RoomComes (doneWith (stamped v key d row l))
@@ -132,7 +132,7 @@ module _ (g : Grown) (t : Shape) (tree : TreeIn g t) where
 
     abbrev markOn : Looked → Marking
     markOn x =
-        onLooked (λ p c. markingAt s st (conflictTold s st key sn ss claiming (c .version .creator)) (targetOf p c (page p s)))
+        onLooked (λ p c. markingAt s st (conflictTold s st key sn ss claiming (c .version .creator)) (targetOf (page s p) p c))
         (λ r. notMarking (r .number) (r .fault)) x
 
     by-found : (b : Best) → StandsBy sn (lookup ss) key s t b → RoomComes (markMeant (rowIn s b)) (marks d (markOn (lookedBest (ChainBest.Ok b))))

@@ -74,7 +74,7 @@ alone = leaf 0 (seat ∷ [])
 
 module _ (g : Grown) (tree : TreeIn g alone) where
   abbrev pg : List ℕ
-  pg = page 0 (g .pool)
+  pg = page (g .pool) 0
 
   abbrev root : ℕ
   root = g .state .root
@@ -103,13 +103,13 @@ module _ (g : Grown) (tree : TreeIn g alone) where
       omega arith
 
   -- the stamped leaf is not overfull
-  fits : ltb 4084 (bytesStamped (targetOf 0 (one .cell) pg)) ≡ false
+  fits : ltb 4084 (bytesStamped (targetOf pg 0 (one .cell))) ≡ false
   unfolding besideOf foldCells
   fits = rw (one .are) (le-ltb 4084 (one .cell .next - 12 + longer (one .cell)) (omega (arith, ends)))
 
-  plans : stampPlan (g .pool) (g .state) (targetOf 0 (one .cell) pg) ≡ planned (fitting (pathOf (0 ∷ [])))
+  plans : stampPlan (g .pool) (g .state) (targetOf pg 0 (one .cell)) ≡ planned (fitting (pathOf (0 ∷ [])))
   unfolding stampPlan
-  plans = rw fits (leaf-planned g alone tree top 0 (seat ∷ []) refl false (cutStamped (targetOf 0 (one .cell) pg) pg))
+  plans = rw fits (leaf-planned g alone tree top 0 (seat ∷ []) refl false (cutStamped pg (targetOf pg 0 (one .cell))))
 
   creator : one .cell .version .creator ≡ 5
   creator = ap (λ (r : Row). r .creator) (one .is)

@@ -103,19 +103,19 @@ module _ (g : Grown) (t : Shape) (tree : TreeIn g t) where
         absurd (let z : _≡_ {A = ℕ} 0 1 = cc in omega arith)
 
     -- in its page
-    stored-apart : (rs : List Row) → length (rowsBytes rs) ≤ 4084 → Apart (setPage p (writeRows rs (page p s)) s)
+    stored-apart : (rs : List Row) → length (rowsBytes rs) ≤ 4084 → Apart (setPage p (writeRows rs (page s p)) s)
     stored-apart rs few x low out =
-        page-setPage-other p (writeRows rs (page p s)) s (leaf-there g t tree c p old is) (rows-long rs (page p s) (leaf-long g t tree c p old is) few) x (not-leaf x out)
+        page-setPage-other p (writeRows rs (page s p)) s (leaf-there g t tree c p old is) (rows-long rs (page s p) (leaf-long g t tree c p old is) few) x (not-leaf x out)
 
     -- divided as planned, whatever count of cells n it is said to have
-    divided-apart : (rs : List Row) → KeysIn (loC 0 c) (hiC top-key c) rs → Sorted rs → AreBytes (part 0 12 (page p s) ++ rowsBytes rs)
+    divided-apart : (rs : List Row) → KeysIn (loC 0 c) (hiC top-key c) rs → Sorted rs → AreBytes (part 0 12 (page s p) ++ rowsBytes rs)
         → (total : ℕ) (cut : Cut) → RowsCut rs cut → HasRoom (length s / 4096) st total cut (path c) (divisionOf (path c) s)
-        → (n : ℕ) → Apart (dividedUp (dividing (pathOf (p ∷ path c)) cut (divisionOf (path c) s)) p n (part 0 12 (page p s) ++ rowsBytes rs) g .pool)
+        → (n : ℕ) → Apart (dividedUp (dividing (pathOf (p ∷ path c)) cut (divisionOf (path c) s)) p n (part 0 12 (page s p) ++ rowsBytes rs) g .pool)
     divided-apart rs keys sorted B total cut cuts room n =
         let few = pool-is s st (tree .good) .few in
         let used = used-few g t tree c p old is rs keys sorted B total cut cuts room in
         divided-up-elsewhere s (st .root) (st .used) t c p old (cuts .left) (cuts .middle) (cuts .right)
-        (dividing (pathOf (p ∷ path c)) cut (divisionOf (path c) s)) n (part 0 12 (page p s) ++ rowsBytes rs)
+        (dividing (pathOf (p ∷ path c)) cut (divisionOf (path c) s)) n (part 0 12 (page s p) ++ rowsBytes rs)
         is (tree .formed) (tree .bytes) B (cuts .left-few) (cuts .right-few) (rw (cuts .whole)) refl (cuts .place) (omega (arith, used)) (omega (arith, used))
 
   -- ---- a new version
@@ -140,7 +140,7 @@ module _ (g : Grown) (t : Shape) (tree : TreeIn g t) where
     size = bytesWith spot-for (rowSize r)
 
     abbrev cut-with : Cut
-    cut-with = cutWith spot-for (rowSize r) (page q s)
+    cut-with = cutWith (page s q) spot-for (rowSize r)
 
     insert-over : (over : Bool) → ltb 4084 size ≡ over → roomOf (length s / 4096) st size (planAbove at-way q over cut-with s) ≡ 0
         → Apart (insertedAt spot-for (planAbove at-way q over cut-with s) (rowBytes r) g .pool)
@@ -149,9 +149,9 @@ module _ (g : Grown) (t : Shape) (tree : TreeIn g t) where
         let h = room-told (length s / 4096) st size q (path at-way) cut-with (divisionOf (path at-way) s) room in
         let n = new-rows g t tree r fits B in
         let cuts = insert-cut (st .used) s spot-for r old (spot g t tree r fits B) (holds g t tree r fits B) (sorted-old g t tree r fits B) fits o (h .cuts) in
-        subst (λ (w : List ℕ). Apart (dividedUp (planAbove at-way q true cut-with s) q (cellCount (page q s) + 1) w g .pool)) (sym (insert-spliced g t tree r fits B))
+        subst (λ (w : List ℕ). Apart (dividedUp (planAbove at-way q true cut-with s) q (cellCount (page s q) + 1) w g .pool)) (sym (insert-spliced g t tree r fits B))
         (divided-apart at-way q old (way-is g t tree r fits B) (place r old) (n .0) (n .1) (insert-bytes g t tree r fits B) size cut-with cuts h
-        (cellCount (page q s) + 1))
+        (cellCount (page s q) + 1))
     insert-over false o room =
         let f = insert-fits-bytes (st .used) s spot-for r old (spot g t tree r fits B) (holds g t tree r fits B) (sorted-old g t tree r fits B) fits o in
         subst (λ (w : List ℕ). Apart (setPage q w s)) (sym (f .0)) (stored-apart at-way q old (way-is g t tree r fits B) (place r old) (f .1))
@@ -187,10 +187,10 @@ module _ (g : Grown) (t : Shape) (tree : TreeIn g t) where
       total = bytesStamped target
 
       abbrev cut-stamped : Cut
-      cut-stamped = cutStamped target (page p s)
+      cut-stamped = cutStamped (page s p) target
 
       abbrev rows-stamped : List Row
-      rows-stamped = stampedRows d (here .before) c (here .after) (page p s)
+      rows-stamped = stampedRows d (here .before) c (here .after) (page s p)
 
       stamp-over : (over : Bool) → ltb 4084 total ≡ over → roomOf (length s / 4096) st total (planAbove (here .ctx) p over cut-stamped s) ≡ 0
           → Apart (stampedAt d target (planAbove (here .ctx) p over cut-stamped s) g .pool)
@@ -198,14 +198,14 @@ module _ (g : Grown) (t : Shape) (tree : TreeIn g t) where
       stamp-over true o room =
           let h = room-told (length s / 4096) st total p (path (here .ctx)) cut-stamped (divisionOf (path (here .ctx)) s) room in
           let leaf-at = leaf-is g t tree v key p c here d low in
-          let cuts = stamp-cut (page p s) (leaf-at .end) p d (here .before) (here .after) c (sound g t tree v key p c here d low) (here .cells-are) low o in
-          subst (λ (w : List ℕ). Apart (dividedUp (planAbove (here .ctx) p true cut-stamped s) p (cellCount (page p s)) w g .pool))
+          let cuts = stamp-cut (page s p) (leaf-at .end) p d (here .before) (here .after) c (sound g t tree v key p c here d low) (here .cells-are) low o in
+          subst (λ (w : List ℕ). Apart (dividedUp (planAbove (here .ctx) p true cut-stamped s) p (cellCount (page s p)) w g .pool))
           (sym (stamp-spliced g t tree v key p c here d low))
           (divided-apart (here .ctx) p (here .rows) (here .is) rows-stamped (stamped-keys g t tree v key p c here d low) (stamped-sorted g t tree v key p c here d low)
-          (stamp-bytes g t tree v key p c here d low) total cut-stamped cuts h (cellCount (page p s)))
+          (stamp-bytes g t tree v key p c here d low) total cut-stamped cuts h (cellCount (page s p)))
       stamp-over false o room =
           let leaf-at = leaf-is g t tree v key p c here d low in
-          let f = stamp-fits-bytes (page p s) (leaf-at .end) p d (here .before) (here .after) c (sound g t tree v key p c here d low) (here .cells-are) low o in
+          let f = stamp-fits-bytes (page s p) (leaf-at .end) p d (here .before) (here .after) c (sound g t tree v key p c here d low) (here .cells-are) low o in
           subst (λ (w : List ℕ). Apart (setPage p w s)) (sym (f .0)) (stored-apart (here .ctx) p (here .rows) (here .is) rows-stamped (f .1))
 
       abbrev stamp-plan : Planned
@@ -224,7 +224,7 @@ module _ (g : Grown) (t : Shape) (tree : TreeIn g t) where
 
     abbrev markOn : Looked → Marking
     markOn x =
-        onLooked (λ p c. markingAt s st (conflictTold s st key sn ss claiming (c .version .creator)) (targetOf p c (page p s)))
+        onLooked (λ p c. markingAt s st (conflictTold s st key sn ss claiming (c .version .creator)) (targetOf (page s p) p c))
         (λ r. notMarking (r .number) (r .fault)) x
 
     by-found : (b : Best) → StandsBy sn (lookup ss) key s t b → Apart (markedBy d (markOn (lookedBest (ChainBest.Ok b))))

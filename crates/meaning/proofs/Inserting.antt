@@ -66,7 +66,7 @@ module _ (g : Grown) (t : Shape) (tree : TreeIn g t) (r : Row) (fits : RowFits r
   pub spot : SpotIs (st .used) (r .key) (r .creator) s x
   spot = spot-is (st .used) (st .root) (r .key) (r .creator) s x (tree .bytes) (pool-is s st (tree .good) .room) (spots g t tree r (fits .key))
 
-  pub holds : rows (page p s) ≡ old
+  pub holds : rows (page s p) ≡ old
   holds = way-leaf g t tree r (fits .key) .says .rows-are
 
   pub sorted-old : Sorted old
@@ -75,17 +75,17 @@ module _ (g : Grown) (t : Shape) (tree : TreeIn g t) (r : Row) (fits : RowFits r
   pub new : KeysIn (loC 0 c) (hiC top-key c) (place r old) × Sorted (place r old)
   new = way-cells r t (way-there g t tree r (fits .key))
 
-  pub spliced-is : splicedAt x (rowBytes r) (page p s) ≡ part 0 12 (page p s) ++ rowsBytes (place r old)
+  pub spliced-is : splicedAt x (rowBytes r) (page s p) ≡ part 0 12 (page s p) ++ rowsBytes (place r old)
   spliced-is = insert-spliced-is (st .used) s x r old spot holds sorted-old fits
 
-  pub bytes-new : AreBytes (part 0 12 (page p s) ++ rowsBytes (place r old))
+  pub bytes-new : AreBytes (part 0 12 (page s p) ++ rowsBytes (place r old))
   bytes-new =
       subst AreBytes spliced-is
-      (bytes-spliced (x .place .at) (x .place .at) (x .end) (rowBytes r) (page p s) (bytes-cell (r .key) (r .creator) (r .stamp) (r .pointer) (r .body) B)
+      (bytes-spliced (x .place .at) (x .place .at) (x .end) (rowBytes r) (page s p) (bytes-cell (r .key) (r .creator) (r .stamp) (r .pointer) (r .body) B)
       (bytes-page p s (tree .bytes)))
 
   abbrev cut : Cut
-  cut = cutWith x (rowSize r) (page p s)
+  cut = cutWith (page s p) x (rowSize r)
 
   by-over : (over : Bool) → ltb 4084 (bytesWith x (rowSize r)) ≡ over → roomOf (length s / 4096) st (bytesWith x (rowSize r)) (planAbove c p over cut s) ≡ 0
       → Holding (preC c ++ (place r old ++ postC c)) (insertedAt x (planAbove c p over cut s) (rowBytes r) g)

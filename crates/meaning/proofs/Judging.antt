@@ -95,14 +95,14 @@ module _ (g : Grown) (t : Shape) (tree : TreeIn g t) where
     way-leaf = at-leaf s (st .root) (st .used) t (tree .formed) (way r t) (way-there .back)
 
     abbrev pub spotFor : Spot
-    spotFor = record { leaf = way r t .page; place = placeOf (r .key) (r .creator) (cells (page (way r t .page) s)); end = way-leaf .end }
+    spotFor = record { leaf = way r t .page; place = placeOf (r .key) (r .creator) (cells (page s (way r t .page))); end = way-leaf .end }
 
     pub spots : spotOf s (st .used) (st .root) (r .key) (r .creator) ≡ Spotted.Ok spotFor
     unfolding spotOf placeLeaf
     spots = rw (descend-insert s (st .root) (st .used) t (tree .formed) (r .key), way-leaf .judged)
 
     abbrev pub insertPlanned : (m : ℕ) → Planned
-    insertPlanned m = planAbove (way r t .ctx) (way r t .page) (ltb 4084 (bytesWith spotFor m)) (cutWith spotFor m (page (way r t .page) s)) s
+    insertPlanned m = planAbove (way r t .ctx) (way r t .page) (ltb 4084 (bytesWith spotFor m)) (cutWith (page s (way r t .page)) spotFor m) s
 
     pub insert-planned : (m : ℕ) → insertPlan s st spotFor m ≡ planned (insertPlanned m)
     unfolding insertPlan
@@ -153,10 +153,10 @@ module _ (g : Grown) (t : Shape) (tree : TreeIn g t) where
 
   module _ (v : Row → Bool) (key p : ℕ) (c : Cell) (here : Standing v key s t p c) where
     abbrev pub targetFor : Target
-    targetFor = targetOf p c (page p s)
+    targetFor = targetOf (page s p) p c
 
     abbrev pub stampPlanned : Planned
-    stampPlanned = planAbove (here .ctx) p (ltb 4084 (bytesStamped targetFor)) (cutStamped targetFor (page p s)) s
+    stampPlanned = planAbove (here .ctx) p (ltb 4084 (bytesStamped targetFor)) (cutStamped (page s p) targetFor) s
 
     pub stamp-planned : stampPlan s st targetFor ≡ planned stampPlanned
     unfolding stampPlan

@@ -33,7 +33,7 @@ use Rattle.call_clean.proofs.Storing.{vacuum-end}
 -- ---- P1: vacuum of an empty tree
 
 -- no row to drop: the page stays
-empty-vacuumed : (f : ℕ → ℕ) (bound : ℕ) {pg : List ℕ} → Empty pg → vacuumedLeaf f bound pg ≡ record { page = pg; told = record { dropped = 0; changed = false } }
+empty-vacuumed : (f : ℕ → ℕ) (bound : ℕ) {pg : List ℕ} → Empty pg → vacuumedLeaf pg f bound ≡ record { page = pg; told = record { dropped = 0; changed = false } }
 unfolding vacuumedLeaf droppedRows changesRows cellsOf
 empty-vacuumed f bound e = rw (e .count)
 
@@ -41,7 +41,7 @@ module _ (used root : ℕ) (s : List ℕ) (t : Alone used root s) where
   chain-judged : judgedAlong s used root ≡ ChainJudged.Ok
   unfolding judgedAlong
   chain-judged =
-      let here : lookLeaf 0 root (page root s) ≡ go 0 = rw (empty-judged (t .empty) root) in
+      let here : lookLeaf 0 root (page s root) ≡ go 0 = rw (empty-judged (t .empty) root) in
       let all : along s used root lookLeaf used 0 ≡ ok 0 =
       sym (along-end lookLeaf used 0 root s (t .in-use) refl used (omega (arith, t .in-use)) here refl (t .empty .next)) in
       rw all
@@ -49,7 +49,7 @@ module _ (used root : ℕ) (s : List ℕ) (t : Alone used root s) where
   chain-stays : (f : ℕ → ℕ) (bound : ℕ) → vacuumedAlong s used root f bound used 0 ≡ ended 0 s
   chain-stays f bound =
       let w = empty-vacuumed f bound (t .empty) in
-      let same : s ≡ setPage root (vacuumedLeaf f bound (page root s) .page) s = rw w (sym (setPage-page root s)) in
+      let same : s ≡ setPage root (vacuumedLeaf (page s root) f bound .page) s = rw w (sym (setPage-page root s)) in
       sym
       (vacuum-end f bound used 0 root s (t .in-use) (sym (empty-judged (t .empty) root)) refl (sym (ap (λ (x : Swept). x .told) w)) same refl
       used (omega (arith, t .in-use)) (t .empty .next))

@@ -43,7 +43,7 @@ module _ (s : List ℕ) (st : State) (left : hasPage s st ≡ true) where
   there = omega (arith, ltb-true (st .used) (length s / 4096) left)
 
   abbrev newPage : List ℕ
-  newPage = withIsRoot 1 (withNodeType 1 (page (st .used) (withFresh s st)))
+  newPage = withIsRoot 1 (withNodeType 1 (page (withFresh s st) (st .used)))
 
   view-created : view (createdPool s st) ≡ withPage (view s) (st .used) (said newPage)
   unfolding createdPool nextPage
@@ -66,7 +66,7 @@ module _ (s : List ℕ) (st : State) (left : hasPage s st ≡ true) where
       record {
         tree = tt;
         root-is = refl;
-        rep = view-page (st .used) (createdPool s st) ∙ said-empty (page (st .used) (createdPool s st)) (created-alone s st left .empty);
+        rep = view-page (st .used) (createdPool s st) ∙ said-empty (page (createdPool s st) (st .used)) (created-alone s st left .empty);
         level = (0, omega arith, refl);
         bounds = (omega arith, tt);
         small = tt;

@@ -53,20 +53,20 @@ module _ (t : Target) (pg : List ℕ) (B : AreBytes pg) (short : length pg ≤ 4
       between-append 19 4084 (xs t pg short is over) (m t pg short is over ∷ ys t pg short is over) (sizes-bound pg short 12 (is .first) (omega arith) (is .chain))
       (omega (arith, is .size), one-fits, sizes-bound pg short (t .cell .next) (is .rest) (omega (arith, is .low, is .size)) (is .chain-on))
 
-  stamp-cuts : cutFits (bytesStamped t) (cutStamped t pg) ≡ true
+  stamp-cuts : cutFits (bytesStamped t) (cutStamped pg t) ≡ true
   stamp-cuts =
       let sum-is = whole-sum t pg short is over in
       rw (cut-is t pg short is over, sum-is) (stamp-divides (all t pg short is over) all-between (omega arith) (omega (arith, is .within, live t pg short is over .1)))
 
 -- so its plan has a cut that fits
 module _ (s : List ℕ) (st : State) (B : AreBytes s) (t : Target) (met : CellMet (st .used) (t .leaf) (t .cell) s)
-    (is : t ≡ targetOf (t .leaf) (t .cell) (page (t .leaf) s)) where
+    (is : t ≡ targetOf (page s (t .leaf)) (t .leaf) (t .cell)) where
   pub plan-cuts : stampPlan s st t .ok ≡ true → stampPlan s st t .plan .over ≡ true → cutFits (bytesStamped t) (stampPlan s st t .plan .cut) ≡ true
   unfolding stampPlan
   plan-cuts e o =
-      let pg = page (t .leaf) s in
+      let pg = page s (t .leaf) in
       let b = ltb 4084 (bytesStamped t) in
-      let p = planned-is st (t .leaf) b (cutStamped t pg) s (plan-told st (t .leaf) b (cutStamped t pg) s e) in
+      let p = planned-is st (t .leaf) b (cutStamped pg t) s (plan-told st (t .leaf) b (cutStamped pg t) s e) in
       let more : b ≡ true = sym (p .same) ∙ o in
       rw (p .at-cut more)
       (stamp-cuts t pg (bytes-page (t .leaf) s B) (page-short (t .leaf) s) (target-stands (st .used) s t met is) (ltb-true 4084 (bytesStamped t) more))

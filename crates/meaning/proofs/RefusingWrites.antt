@@ -187,7 +187,7 @@ module _ (ns : List ℕ) where
   MarkingKnown x = Known ns (x .number)
 
   module _ (s : List ℕ) (st : State) (B : AreBytes s) (two : Known ns 2) (eleven : Known ns 11) (ten : Known ns 10) where
-    module _ (t : Target) (met : CellMet (st .used) (t .leaf) (t .cell) s) (is : t ≡ targetOf (t .leaf) (t .cell) (page (t .leaf) s)) where
+    module _ (t : Target) (met : CellMet (st .used) (t .leaf) (t .cell) s) (is : t ≡ targetOf (page s (t .leaf)) (t .leaf) (t .cell)) where
       -- 9 is none of them, whatever the numbers: the plan's cut fits
       stamp-room : stampPlan s st t .ok ≡ true → Known ns (roomOf (length s / 4096) st (bytesStamped t) (stampPlan s st t .plan))
       stamp-room e =
@@ -224,11 +224,11 @@ module _ (ns : List ℕ) where
         where
           by-looked : (y : Looked) → findVisibleRun s st key sn ss ≡ y → LookedKnown ns y
               → MarkingKnown
-              (onLooked (λ p c. markingAt s st (conflictTold s st key sn ss claiming (c .version .creator)) (targetOf p c (page p s)))
+              (onLooked (λ p c. markingAt s st (conflictTold s st key sn ss claiming (c .version .creator)) (targetOf (page s p) p c))
               (λ r. notMarking (r .number) (r .fault)) y)
           by-looked (Looked.At p c) e k =
               let f = looked-finds s st key sn ss {looked = Looked.At p c} (sym e) refl in
-              marking-known (targetOf p c (page p s)) (f .met) refl (conflictTold s st key sn ss claiming (c .version .creator))
+              marking-known (targetOf (page s p) p c) (f .met) refl (conflictTold s st key sn ss claiming (c .version .creator))
               (asked-known claiming (c .version .creator) seven)
           by-looked (Looked.Refused r) e k = k
 

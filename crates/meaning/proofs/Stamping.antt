@@ -86,7 +86,7 @@ module _ (g : Grown) (t : Shape) (tree : TreeIn g t) (v : Row → Bool) (key p :
   st = g .state
 
   abbrev pg : List ℕ
-  pg = page p s
+  pg = page s p
 
   abbrev ctx : Ctx
   ctx = here .ctx
@@ -134,7 +134,7 @@ module _ (g : Grown) (t : Shape) (tree : TreeIn g t) (v : Row → Bool) (key p :
   sorted = stamp-sorted d front row back (bounds .1)
 
   abbrev target : Target
-  target = targetOf p c pg
+  target = targetOf pg p c
 
   pub spliced-is : splicedStamp d target pg ≡ part 0 12 pg ++ rowsBytes new
   spliced-is = stamp-spliced-is pg (leaf-is .end) p d (here .before) (here .after) c sound (here .cells-are) low
@@ -148,7 +148,7 @@ module _ (g : Grown) (t : Shape) (tree : TreeIn g t) (v : Row → Bool) (key p :
       (bytes-cell (c .key) (c .version .creator) (Stamp.By d) (c .version .pointer) body (bytes-part (c .version .start) (c .version .len) pg B)) B)
 
   abbrev cut : Cut
-  cut = cutStamped target pg
+  cut = cutStamped pg target
 
   abbrev chained : List Row
   chained = preC ctx ++ (new ++ postC ctx)

@@ -78,20 +78,20 @@ module _ (g : Grown) (t : Shape) (tree : TreeIn g t) (c : Ctx) (p : ℕ) (old : 
   pub leaf-there : There p s
   leaf-there = omega (arith, leaf-low, pool-is s st (tree .good) .room)
 
-  pub leaf-long : length (page p s) ≡ 4096
+  pub leaf-long : length (page s p) ≡ 4096
   leaf-long = length-page p s leaf-there
 
-  pub leaf-says-it : LeafSays (page p s) (parC 0 c) (nxtC 0 c) old
+  pub leaf-says-it : LeafSays (page s p) (parC 0 c) (nxtC 0 c) old
   leaf-says-it = leaf-held s (st .root) (st .used) c p old formed .0
 
-  module _ (rs : List Row) (keys : KeysIn (loC 0 c) (hiC top-key c) rs) (sorted : Sorted rs) (B : AreBytes (part 0 12 (page p s) ++ rowsBytes rs)) where
+  module _ (rs : List Row) (keys : KeysIn (loC 0 c) (hiC top-key c) rs) (sorted : Sorted rs) (B : AreBytes (part 0 12 (page s p) ++ rowsBytes rs)) where
     -- in its page
     module _ (fit : AllFit rs) (few : length (rowsBytes rs) ≤ 4084) where
       abbrev written : List ℕ
-      written = writeRows rs (page p s)
+      written = writeRows rs (page s p)
 
       written-long : length written ≡ 4096
-      written-long = rows-long rs (page p s) leaf-long few
+      written-long = rows-long rs (page s p) leaf-long few
 
       written-bytes : AreBytes written
       unfolding writeRows
@@ -100,7 +100,7 @@ module _ (g : Grown) (t : Shape) (tree : TreeIn g t) (c : Ctx) (p : ℕ) (old : 
       view-written : view (setPage p written s) ≡ withPage (view s) p (leafPage (parC 0 c) (nxtC 0 c) rs)
       view-written =
           view-set p written s leaf-there written-long
-          ∙ ap (withPage (view s) p) (said-rows rs (page p s) leaf-long (leaf-says-it .type) fit few ∙ rw (leaf-says-it .parent, leaf-says-it .next))
+          ∙ ap (withPage (view s) p) (said-rows rs (page s p) leaf-long (leaf-says-it .type) fit few ∙ rw (leaf-says-it .parent, leaf-says-it .next))
 
       pub leaf-stored : Holding (preC c ++ (rs ++ postC c)) (grown (setPage p written s) st)
       leaf-stored =
@@ -142,13 +142,13 @@ module _ (g : Grown) (t : Shape) (tree : TreeIn g t) (c : Ctx) (p : ℕ) (old : 
           by-growth false e false z = omega (arith, grows .few)
 
       abbrev after : Grown
-      after = dividedUp (dividing (pathOf (p ∷ path c)) cut (divisionOf (path c) s)) p (length rs) (part 0 12 (page p s) ++ rowsBytes rs) g
+      after = dividedUp (dividing (pathOf (p ∷ path c)) cut (divisionOf (path c) s)) p (length rs) (part 0 12 (page s p) ++ rowsBytes rs) g
 
       settles : Settled s (st .root) (usedAfter (st .root) raised) (preC c ++ ((left ++ (mid ∷ right)) ++ postC c)) after
       settles =
           let few = pool-is s st (tree .good) .few in
           divided-up-wf s (st .root) (st .used) t c p old left mid right (dividing (pathOf (p ∷ path c)) cut (divisionOf (path c) s)) (length rs)
-          (part 0 12 (page p s) ++ rowsBytes rs) is (tree .formed) (tree .bytes) B (rw (cuts .whole) keys) (rw (cuts .whole) sorted)
+          (part 0 12 (page s p) ++ rowsBytes rs) is (tree .formed) (tree .bytes) B (rw (cuts .whole) keys) (rw (cuts .whole) sorted)
           (cuts .left-few) (cuts .right-few) (cuts .left-fits) (cuts .right-fits) (rw (cuts .whole)) (rw (cuts .whole)) refl (cuts .place)
           (grows .deep) (omega (arith, used-few)) (omega (arith, used-few))
 

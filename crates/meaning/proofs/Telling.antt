@@ -63,11 +63,11 @@ module _ (s : List ℕ) (root used : ℕ) (t : Shape) (f : WellFormed (view s) r
       step : List Row → ℕ → List ℕ → List Row
       step a p pg = a ++ only (ofKey key) (rows pg)
 
-      says : (a : List Row) (p : ℕ) (pg : List ℕ) (e : ℕ) → judgeLeaf p pg ≡ Judged.Ok e
+      says : (a : List Row) (p : ℕ) (pg : List ℕ) (e : ℕ) → judgeLeaf pg p ≡ Judged.Ok e
           → lookRows (Which.Key key) a p pg ≡ pick (larger key (rows pg)) (stop (step a p pg)) (go (step a p pg))
       says a p pg e j = rw (j, larger-is key pg)
 
-      skips : (a : List Row) (p : ℕ) (pg : List ℕ) (e : ℕ) → judgeLeaf p pg ≡ Judged.Ok e → All (λ (r : Row). ofKey key r ≡ false) (rows pg) → step a p pg ≡ a
+      skips : (a : List Row) (p : ℕ) (pg : List ℕ) (e : ℕ) → judgeLeaf pg p ≡ Judged.Ok e → All (λ (r : Row). ofKey key r ≡ false) (rows pg) → step a p pg ≡ a
       skips a p pg e j o = ap (λ (l : List Row). a ++ l) (filt-none (ofKey key) (rows pg) o) ∙ append-nil a
 
       joins : (a xs ys : List Row) → a ++ only (ofKey key) (xs ++ ys) ≡ (a ++ only (ofKey key) xs) ++ only (ofKey key) ys
@@ -75,7 +75,7 @@ module _ (s : List ℕ) (root used : ℕ) (t : Shape) (f : WellFormed (view s) r
 
   -- every look that takes all of a leaf's rows
   whole : (look : List Row → ℕ → List ℕ → Seen (List Row))
-      → ((a : List Row) (p : ℕ) (pg : List ℕ) (e : ℕ) → judgeLeaf p pg ≡ Judged.Ok e → look a p pg ≡ go (a ++ rows pg))
+      → ((a : List Row) (p : ℕ) (pg : List ℕ) (e : ℕ) → judgeLeaf pg p ≡ Judged.Ok e → look a p pg ≡ go (a ++ rows pg))
       → along s used (first t) look used [] ≡ ok (chain t)
   whole look says =
       walk-all look (λ a p pg. a ++ rows pg) says s root used t f []

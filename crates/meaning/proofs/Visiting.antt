@@ -60,36 +60,36 @@ module _ {L : Type 0} (f : L → ℕ → Told L) where
       by-told (ok m) = refl
       by-told (ill e) = refl
 
-kids-all : {L : Type 0} (f : L → ℕ → Told L) (j : ℕ) (pg : List ℕ) (l : L) → visitKids f j pg l ≡ visitAll f (childrenFrom 0 j pg) l
+kids-all : {L : Type 0} (f : L → ℕ → Told L) (j : ℕ) (pg : List ℕ) (l : L) → visitKids pg f j l ≡ visitAll f (childrenFrom pg 0 j) l
 unfolding visitKids childrenFrom
 kids-all f zero pg l = refl
 kids-all {L} f (suc j) pg l =
-    by-told (f l (childAt pg j)) (kids-all f j pg) ∙ sym (ap (λ (cs : List ℕ). visitAll f cs l) last ∙ visit-append f (childrenFrom 0 j pg) (childAt pg j ∷ []) l)
+    by-told (f l (childAt pg j)) (kids-all f j pg) ∙ sym (ap (λ (cs : List ℕ). visitAll f cs l) last ∙ visit-append f (childrenFrom pg 0 j) (childAt pg j ∷ []) l)
   where
-    last : childrenFrom 0 (suc j) pg ≡ childrenFrom 0 j pg ++ (childAt pg j ∷ [])
+    last : childrenFrom pg 0 (suc j) ≡ childrenFrom pg 0 j ++ (childAt pg j ∷ [])
     last = rw (zero-add j) at (children-last pg j 0)
 
-    by-told : (t : Told L) → ((m : L) → visitKids f j pg m ≡ visitAll f (childrenFrom 0 j pg) m)
-        → onTold (λ m. visitKids f j pg m) (λ e. ill e) t ≡ onTold (λ m. visitAll f (childrenFrom 0 j pg) m) (λ e. ill e) t
+    by-told : (t : Told L) → ((m : L) → visitKids pg f j m ≡ visitAll f (childrenFrom pg 0 j) m)
+        → onTold (λ m. visitKids pg f j m) (λ e. ill e) t ≡ onTold (λ m. visitAll f (childrenFrom pg 0 j) m) (λ e. ill e) t
     by-told (ok m) ih = ih m
     by-told (ill e) ih = refl
 
 -- ---- the walk
 
 abbrev walking : (k used : ℕ) → List ℕ → List ℕ → List ℕ → ℕ → Told (List ℕ)
-walking k used s up l p = visiting (λ l p. mem p l) (λ p l. l ++ (p ∷ [])) k used s up l p
+walking k used s up l p = visiting s used (λ l p. mem p l) (λ p l. l ++ (p ∷ [])) k up l p
 
 module _ (s : List ℕ) (used : ℕ) where
   -- a leaf, and an internal page with m children
-  visit-leaf : (k : ℕ) (up l : List ℕ) (p : ℕ) → topAt k used s up (mem p l) p ≡ Top.Page 0 → walking k used s up l p ≡ ok (l ++ (p ∷ []))
+  visit-leaf : (k : ℕ) (up l : List ℕ) (p : ℕ) → topAt s used k up (mem p l) p ≡ Top.Page 0 → walking k used s up l p ≡ ok (l ++ (p ∷ []))
   unfolding visiting visitKids
   visit-leaf zero up l p e = rw e
   visit-leaf (suc k) up l p e = rw e
 
-  visit-inner : (k : ℕ) (up l : List ℕ) (p m : ℕ) → topAt (suc k) used s up (mem p l) p ≡ Top.Page m
-      → walking (suc k) used s up l p ≡ visitAll (walking k used s (up ++ (p ∷ []))) (childrenFrom 0 m (page p s)) (l ++ (p ∷ []))
+  visit-inner : (k : ℕ) (up l : List ℕ) (p m : ℕ) → topAt s used (suc k) up (mem p l) p ≡ Top.Page m
+      → walking (suc k) used s up l p ≡ visitAll (walking k used s (up ++ (p ∷ []))) (childrenFrom (page s p) 0 m) (l ++ (p ∷ []))
   unfolding visiting
-  visit-inner k up l p m e = rw e (kids-all (walking k used s (up ++ (p ∷ []))) m (page p s) (l ++ (p ∷ [])))
+  visit-inner k up l p m e = rw e (kids-all (walking k used s (up ++ (p ∷ []))) m (page s p) (l ++ (p ∷ [])))
 
   -- of a run that stands apart from the pages above it and from those listed
   visit-run : (n k par nxt lo hi : ℕ) (up l : List ℕ) (g : Shape) → Holds (view s) par nxt g → Deep n g → Bounded lo hi g → All (λ p. p < used) (pagesIn g)
@@ -104,10 +104,10 @@ module _ (s : List ℕ) (used : ℕ) where
       let e = d .1 in
       let a = inner-at s p par (h .0) (head f) (rest f) v in
       let j = judged-inner-of s p par (h .0) (head f) (rest f) v (seps-rise lo hi f b) in
-      let c : childrenFrom 0 (length (rest f) + 1) (page p s) ≡ roots f =
+      let c : childrenFrom (page s p) 0 (length (rest f) + 1) ≡ roots f =
       rw (count-of s p par (h .0) (head f) (rest f) v) at (children-of s p par (h .0) (head f) (rest f) v) ∙ sym (roots-is f) in
-      let other : nodeType (page p s) ≡ 1 → ⊥ = λ t. let q : _≡_ {A = ℕ} 0 1 = sym (a .type) ∙ t in omega arith in
-      let to : topAt (suc k) used s up (mem p l) p ≡ Top.Page (length (rest f) + 1) =
+      let other : nodeType (page s p) ≡ 1 → ⊥ = λ t. let q : _≡_ {A = ℕ} 0 1 = sym (a .type) ∙ t in omega arith in
+      let to : topAt s used (suc k) up (mem p l) p ≡ Top.Page (length (rest f) + 1) =
       sym (top-inner (suc k) used s up (mem p l) p (u .0) refl (out-mem p up (au .0)) refl (out-mem p l (al .0)) refl refl other (λ q. omega arith) refl j) in
       visit-inner k up l p (length (rest f) + 1) to
       ∙ (ap (λ (cs : List ℕ). visitAll (walking k used s (up ++ (p ∷ []))) cs (l ++ (p ∷ []))) c

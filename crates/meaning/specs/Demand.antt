@@ -35,7 +35,7 @@ Effect = (a : Change) (g : Grown) (t : Shape) → TreeIn g t → Fits a → (mea
 
 -- a lookup finds the version that is meant, by its place
 abbrev pub rowFound : List ℕ → Looked → Option Row
-rowFound s (Looked.At p c) = some (rowOf (page p s) c)
+rowFound s (Looked.At p c) = some (rowOf (page s p) c)
 rowFound s (Looked.Refused r) = none
 
 abbrev pub LookupIs : Type 0

@@ -14,7 +14,7 @@ use Rattle.mvcc.specs.Snapshot.{Statuses}
 
 -- every page in use that is none of the tree's is as it was
 abbrev pub Elsewhere : Shape → (used : ℕ) → (before after : List ℕ) → Type 0
-Elsewhere t used before after = (x : ℕ) → x < used → mem x (pagesIn t) ≡ false → page x after ≡ page x before
+Elsewhere t used before after = (x : ℕ) → x < used → mem x (pagesIn t) ≡ false → page after x ≡ page before x
 
 pub record Framed : Type 0 where
   pub changes : (a : Change) (g : Grown) (t : Shape) → TreeIn g t → Fits a → Elsewhere t (g .state .used) (g .pool) (run a g .after .pool)

@@ -13,7 +13,7 @@ use Rattle.page.specs.Page.{page, setPage}
 use Rattle.store.proofs.PartLaws.{lent, back, le-or-lt, length-part, leAt-part, length-splice, part-splice, part-splice-below, part-splice-above, putAt-splice, splice-splice, splice-part, splice-within, part-part, getD-part}
 
 -- what `&pool[a..e]` and `&mut pool[a..e]` lend, with `let a = p * 4096; let e = a + 4096;`
-pub lent-page : (p : ℕ) (s : List ℕ) → midOf (p * 4096) (p * 4096 + 4096 - p * 4096) s ≡ page p s
+pub lent-page : (p : ℕ) (s : List ℕ) → midOf (p * 4096) (p * 4096 + 4096 - p * 4096) s ≡ page s p
 unfolding page
 lent-page p s = lent (p * 4096) 4096 s
 
@@ -22,11 +22,11 @@ pub back-page : (p : ℕ) (s y : List ℕ) → putMid (p * 4096) (p * 4096 + 409
 unfolding setPage
 back-page p s y = back (p * 4096) 4096 s y
 
-pub page-short : (p : ℕ) (s : List ℕ) → length (page p s) ≤ 4096
+pub page-short : (p : ℕ) (s : List ℕ) → length (page s p) ≤ 4096
 unfolding page part
 page-short p s = omega (arith, length-take 4096 (drop (p * 4096) s))
 
-pub length-page : (p : ℕ) (s : List ℕ) → p * 4096 + 4096 ≤ length s → length (page p s) ≡ 4096
+pub length-page : (p : ℕ) (s : List ℕ) → p * 4096 + 4096 ≤ length s → length (page s p) ≡ 4096
 unfolding page
 length-page p s = length-part (p * 4096) 4096 s
 
@@ -35,11 +35,11 @@ module _ (p : ℕ) (x s : List ℕ) (fits : p * 4096 + 4096 ≤ length s) (len :
   unfolding setPage
   length-setPage = length-splice (p * 4096) 4096 x s fits len
 
-  pub page-setPage : page p (setPage p x s) ≡ x
+  pub page-setPage : page (setPage p x s) p ≡ x
   unfolding page setPage
   page-setPage = part-splice (p * 4096) 4096 x s fits len
 
-  pub page-setPage-other : (q : ℕ) → (q ≡ p → ⊥) → page q (setPage p x s) ≡ page q s
+  pub page-setPage-other : (q : ℕ) → (q ≡ p → ⊥) → page (setPage p x s) q ≡ page s q
   unfolding page setPage
   page-setPage-other q ne =
       ⊎-elim
@@ -48,20 +48,20 @@ module _ (p : ℕ) (x s : List ℕ) (fits : p * 4096 + 4096 ≤ length s) (len :
       (le-or-lt p q)
 
 -- a field of a page, read or written in the pool
-pub leAt-page : (w p : ℕ) (s : List ℕ) (b : ℕ) → b + w ≤ 4096 → leAt w s (p * 4096 + b) ≡ leAt w (page p s) b
+pub leAt-page : (w p : ℕ) (s : List ℕ) (b : ℕ) → b + w ≤ 4096 → leAt w s (p * 4096 + b) ≡ leAt w (page s p) b
 unfolding page
 leAt-page w p s b h = sym (leAt-part w (p * 4096) 4096 s b h)
 
-pub putAt-page : (w p : ℕ) (s : List ℕ) (b x : ℕ) → p * 4096 + 4096 ≤ length s → b + w ≤ 4096 → putAt w s (p * 4096 + b) x ≡ setPage p (putAt w (page p s) b x) s
+pub putAt-page : (w p : ℕ) (s : List ℕ) (b x : ℕ) → p * 4096 + 4096 ≤ length s → b + w ≤ 4096 → putAt w s (p * 4096 + b) x ≡ setPage p (putAt w (page s p) b x) s
 unfolding page setPage
 putAt-page w p s b x = putAt-splice w (p * 4096) 4096 s b x
 
 -- and a part of a page
-pub part-page : (p b n : ℕ) (s : List ℕ) → b + n ≤ 4096 → part (p * 4096 + b) n s ≡ part b n (page p s)
+pub part-page : (p b n : ℕ) (s : List ℕ) → b + n ≤ 4096 → part (p * 4096 + b) n s ≡ part b n (page s p)
 unfolding page
 part-page p b n s h = sym (part-part (p * 4096) 4096 b n s h)
 
-pub put-page : (p b : ℕ) (x s : List ℕ) → p * 4096 + 4096 ≤ length s → b + length x ≤ 4096 → put (p * 4096 + b) x s ≡ setPage p (put b x (page p s)) s
+pub put-page : (p b : ℕ) (x s : List ℕ) → p * 4096 + 4096 ≤ length s → b + length x ≤ 4096 → put (p * 4096 + b) x s ≡ setPage p (put b x (page s p)) s
 unfolding page setPage put
 put-page p b x s fits h = sym (splice-within (p * 4096) 4096 b (length x) x s fits h refl)
 
@@ -69,11 +69,11 @@ pub setPage-setPage : (p : ℕ) (x y s : List ℕ) → p * 4096 + 4096 ≤ lengt
 unfolding setPage
 setPage-setPage p x y s = splice-splice (p * 4096) 4096 x y s
 
-pub setPage-page : (p : ℕ) (s : List ℕ) → setPage p (page p s) s ≡ s
+pub setPage-page : (p : ℕ) (s : List ℕ) → setPage p (page s p) s ≡ s
 unfolding setPage page
 setPage-page p s = splice-part (p * 4096) 4096 s
 
-pub getD-page : (s : List ℕ) (i : ℕ) → getD s i 0 ≡ getD (page (i / 4096) s) (i % 4096) 0
+pub getD-page : (s : List ℕ) (i : ℕ) → getD s i 0 ≡ getD (page s (i / 4096)) (i % 4096) 0
 unfolding page
 getD-page s i =
     let e : i ≡ i / 4096 * 4096 + i % 4096 = omega arith in

@@ -4,8 +4,8 @@ use Prim.Native.Nat.{ℕ, _*_}
 use Rattle.store.specs.Part.{part, splice}
 
 -- the 4096 bytes of page p
-unfoldable pub page : ℕ → List ℕ → List ℕ
-page p s = part (p * 4096) 4096 s
+unfoldable pub page : List ℕ → ℕ → List ℕ
+page s p = part (p * 4096) 4096 s
 
 -- the pool with the bytes x in the place of page p
 unfoldable pub setPage : ℕ → List ℕ → List ℕ → List ℕ

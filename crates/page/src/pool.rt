@@ -42,7 +42,7 @@ pub fn pool_is_good(pool: &[u8], st: State) -> bool
 // The 4096 bytes of page p.
 pub fn page_of(pool: &[u8], p: u32) -> &[u8]
     requires { ⌜ p * 4096 + 4096 ≤ length (now pool) ⌝ }
-    ensures { λ r. ⌜ (now r ≡ page p (now (pool .entry))) × (length (now r) ≡ 4096) ⌝ }
+    ensures { λ r. ⌜ (now r ≡ page (now (pool .entry)) p) × (length (now r) ≡ 4096) ⌝ }
 {
     let a = p as usize * PAGE_SIZE;
     let e = a + PAGE_SIZE;

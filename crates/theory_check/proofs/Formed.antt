@@ -66,23 +66,23 @@ module _ (used : ℕ) (s : List ℕ) where
     small : Sized t
     below : All (λ p. p < used) (pagesIn t)
 
-  good-leaf : (par p lo hi : ℕ) → lo ≤ hi → soundTree 0 used s par p lo hi ≡ true → Good 0 par lo hi (read (view s) 0 p)
+  good-leaf : (par p lo hi : ℕ) → lo ≤ hi → soundTree s used 0 par p lo hi ≡ true → Good 0 par lo hi (read (view s) 0 p)
   unfolding soundTree view
   good-leaf par p lo hi h e =
       let g = sound-leaf used par p lo hi s h e in
       let f = g .2 in
-      let v : view s p ≡ leafPage par (nextLeaf (page p s)) (rows (page p s)) = leaf-said (page p s) (f .type) (f .count) ∙ rw (g .1) in
+      let v : view s p ≡ leafPage par (nextLeaf (page s p)) (rows (page s p)) = leaf-said (page s p) (f .type) (f .count) ∙ rw (g .1) in
       subst (λ (x : Page). Good 0 par lo hi (leaf p (cellsOf x))) (sym v)
       (record { hangs = v; deep = refl; bounds = (f .keys, f .sorted); small = tt; below = (g .0, tt) })
 
   -- the children of a page, each one good where it is sound
-  good-run : (n par : ℕ) → ((p lo hi : ℕ) → lo ≤ hi → soundTree n used s par p lo hi ≡ true → Good n par lo hi (read (view s) n p))
-      → (h : ℕ) (r : List (ℕ × ℕ)) (lo hi : ℕ) → Climbs lo hi (seps r) → soundKids (soundTree n used s par) lo hi (seps r) (kids h r) ≡ true
+  good-run : (n par : ℕ) → ((p lo hi : ℕ) → lo ≤ hi → soundTree s used n par p lo hi ≡ true → Good n par lo hi (read (view s) n p))
+      → (h : ℕ) (r : List (ℕ × ℕ)) (lo hi : ℕ) → Climbs lo hi (seps r) → soundKids (soundTree s used n par) lo hi (seps r) (kids h r) ≡ true
       → Good n par lo hi (run (read (view s) n) h r)
   unfolding soundKids
   good-run n par each h [] lo hi c e = each h lo hi c e
   good-run n par each h (x ∷ r) lo hi c e =
-      let q = and-both (soundTree n used s par h lo (x .0)) (soundKids (soundTree n used s par) (x .0) hi (seps r) (kids (x .1) r)) e in
+      let q = and-both (soundTree s used n par h lo (x .0)) (soundKids (soundTree s used n par) (x .0) hi (seps r) (kids (x .1) r)) e in
       let a = each h lo (x .0) (c .0) (q .0) in
       let b = good-run n par each (x .1) r (x .0) hi (c .1) (q .1) in
       record {
@@ -98,12 +98,12 @@ module _ (used : ℕ) (s : List ℕ) where
   good-node n par p j lo hi f v u l h g =
       record { hangs = (j, v, g .hangs); deep = (n, refl, g .deep); bounds = g .bounds; small = (l, h, g .small); below = (u, g .below) }
 
-  good : (n par p lo hi : ℕ) → lo ≤ hi → soundTree n used s par p lo hi ≡ true → Good n par lo hi (read (view s) n p)
+  good : (n par p lo hi : ℕ) → lo ≤ hi → soundTree s used n par p lo hi ≡ true → Good n par lo hi (read (view s) n p)
   unfolding soundTree view
   good zero par p lo hi h e = good-leaf par p lo hi h e
   good (suc n) par p lo hi h e =
-      let pg = page p s in
-      let q = and-both (soundInner s used par p lo hi) (soundKids (soundTree n used s p) lo hi (keysOf pg) (childrenOf pg)) e in
+      let pg = page s p in
+      let q = and-both (soundInner s used par p lo hi) (soundKids (soundTree s used n p) lo hi (keysOf pg) (childrenOf pg)) e in
       let g = sound-inner used par p lo hi s h (q .0) in
       let i = g .2 in
       let v : view s p ≡ innerPage par (nextLeaf pg) (childAt pg 0) (entriesOf pg) = inner-said pg (i .type) (i .low) (i .high) ∙ rw (g .1) in
@@ -133,21 +133,21 @@ seps-climb lo hi (pair a k b) h = rw map-append (climbs-append lo k hi (seps (re
 
 module _ (used : ℕ) (s : List ℕ) where
   run-sound : (n par lo hi : ℕ) (t : Shape) → Hung s par t → Deep n t → Bounded lo hi t → All (λ p. p < used) (pagesIn t)
-      → soundKids (soundTree n used s par) lo hi (seps (rest t)) (kids (head t) (rest t)) ≡ true
+      → soundKids (soundTree s used n par) lo hi (seps (rest t)) (kids (head t) (rest t)) ≡ true
   unfolding soundKids soundTree
   run-sound n par lo hi (leaf p rs) h d b u =
       let y = leaf-at s p _ _ _ h in
-      let f : LeafFits lo hi (page p s)
+      let f : LeafFits lo hi (page s p)
       = record { type = y .type; count = ap length (y .rows-are) ∙ y .count; keys = rw (y .rows-are) (b .0); sorted = rw (y .rows-are) (b .1) } in
       rw d (leaf-sound used par p lo hi s (u .0) (y .parent) f)
   run-sound n par lo hi (node p f) h d b u =
       let y = inner-at s p par (h .0) (head f) (rest f) (h .1) in
       let ks = keys-of s p par (h .0) (head f) (rest f) (h .1) in
-      let i : InnerFits lo hi (page p s) = record { type = y .type; low = y .low; high = y .high; keys = rw ks (seps-climb lo hi f b) } in
+      let i : InnerFits lo hi (page s p) = record { type = y .type; low = y .low; high = y .high; keys = rw ks (seps-climb lo hi f b) } in
       rw (d .1, inner-sound used par p lo hi s (u .0) (y .parent) i, ks, children-of s p par (h .0) (head f) (rest f) (h .1))
       (run-sound (d .0) p lo hi f (h .2) (d .2) b (u .1))
   run-sound n par lo hi (pair a k b) h d w u =
-      kids-append (soundTree n used s par) lo k hi (head a) (head b) (rest a) (rest b)
+      kids-append (soundTree s used n par) lo k hi (head a) (head b) (rest a) (rest b)
       (run-sound n par lo k a (h .0) (d .0) (w .0) (all-left (λ p. p < used) (pagesIn a) (pagesIn b) u))
       (run-sound n par k hi b (h .1) (d .1) (w .1) (all-right (λ p. p < used) (pagesIn a) (pagesIn b) u))
 
@@ -158,11 +158,11 @@ module _ (s : List ℕ) (n par root : ℕ) (t : Shape) (tree : IsTree t) (top : 
   one-root : roots t ≡ root ∷ []
   one-root = roots-is t ∙ rw (tree-rest t tree, top)
 
-  tree-pages : pagesIn t ≡ pagesOf n s root
-  tree-pages = pages-of s n par t h d ∙ (rw one-root (each-one (pagesOf n s) root))
+  tree-pages : pagesIn t ≡ pagesOf s n root
+  tree-pages = pages-of s n par t h d ∙ (rw one-root (each-one (pagesOf s n) root))
 
-  tree-ends : ends t ≡ leavesOf n s root
-  tree-ends = ends-of s n par t h d ∙ (rw one-root (each-one (leavesOf n s) root))
+  tree-ends : ends t ≡ leavesOf s n root
+  tree-ends = ends-of s n par t h d ∙ (rw one-root (each-one (leavesOf s n) root))
 
 module _ (used root : ℕ) (s : List ℕ) where
   -- the tree that is read
@@ -170,8 +170,8 @@ module _ (used root : ℕ) (s : List ℕ) where
   unfolding wellAt
   well-is n few e =
       let t = read (view s) n root in
-      let a = and-both (soundTree n used s 0 root 0 4294967295) (leavesLinked s (leavesOf n s root) && distinct (pagesOf n s root)) e in
-      let b = and-both (leavesLinked s (leavesOf n s root)) (distinct (pagesOf n s root)) (a .1) in
+      let a = and-both (soundTree s used n 0 root 0 4294967295) (leavesLinked s (leavesOf s n root) && distinct (pagesOf s n root)) e in
+      let b = and-both (leavesLinked s (leavesOf s n root)) (distinct (pagesOf s n root)) (a .1) in
       let g = good used s n 0 root 0 4294967295 (omega arith) (a .0) in
       let l = links-all s t (rw (tree-ends s n 0 root t (read-tree s n root) (read-head s n root) (g .hangs) (g .deep)) (b .0)) in
       record {
@@ -193,9 +193,9 @@ module _ (used root : ℕ) (s : List ℕ) where
       let d = f .level .2 in
       let h = hung s 0 0 t (f .rep) in
       let z = run-sound used s n 0 0 4294967295 t h d (f .bounds) (f .below) in
-      let a : soundTree n used s 0 root 0 4294967295 ≡ true = rw (tree-rest t (f .tree), f .root-is) at z in
-      let b : leavesLinked s (leavesOf n s root) ≡ true = rw (tree-ends s n 0 root t (f .tree) (f .root-is) h d) at (linked-all s t (links s 0 0 t (f .rep) (f .later))) in
-      let c : distinct (pagesOf n s root) ≡ true = rw (tree-pages s n 0 root t (f .tree) (f .root-is) h d) at (twice-none (pagesIn t) (f .distinct)) in
+      let a : soundTree s used n 0 root 0 4294967295 ≡ true = rw (tree-rest t (f .tree), f .root-is) at z in
+      let b : leavesLinked s (leavesOf s n root) ≡ true = rw (tree-ends s n 0 root t (f .tree) (f .root-is) h d) at (linked-all s t (links s 0 0 t (f .rep) (f .later))) in
+      let c : distinct (pagesOf s n root) ≡ true = rw (tree-pages s n 0 root t (f .tree) (f .root-is) h d) at (twice-none (pagesIn t) (f .distinct)) in
       rw (a, b) c
 
   -- one of four levels

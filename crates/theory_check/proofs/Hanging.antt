@@ -29,13 +29,13 @@ ends (pair a k b) = ends a ++ ends b
 
 -- as Holds, whatever the leaves link to
 abbrev pub Hung : List ℕ → (par : ℕ) → Shape → Type 0
-Hung s par (leaf p rs) = view s p ≡ leafPage par (nextLeaf (page p s)) rs
+Hung s par (leaf p rs) = view s p ≡ leafPage par (nextLeaf (page s p)) rs
 Hung s par (node p f) = (j : ℕ) × (view s p ≡ innerPage par j (head f) (rest f)) × Hung s p f
 Hung s par (pair a k b) = Hung s par a × Hung s par b
 
 -- the links: each leaf to the one right of it, which is not page 0, and the last to nxt
 abbrev pub Links : List ℕ → (nxt : ℕ) → Shape → Type 0
-Links s nxt (leaf p rs) = nextLeaf (page p s) ≡ nxt
+Links s nxt (leaf p rs) = nextLeaf (page s p) ≡ nxt
 Links s nxt (node p f) = Links s nxt f
 Links s nxt (pair a k b) = Links s (first b) a × (first b ≡ 0 → ⊥) × Links s nxt b
 
@@ -88,18 +88,18 @@ zero-ends (node p f) l h = zero-ends f l h
 zero-ends (pair a k b) l h = rw append-assoc (zero-ends a (ends b ++ l) h)
 
 module _ (s : List ℕ) where
-  linked-first : (p : ℕ) (l : List ℕ) → leavesLinked s (p ∷ l) ≡ true → (nextLeaf (page p s) ≡ front l) × (leavesLinked s l ≡ true) × NotZero l
+  linked-first : (p : ℕ) (l : List ℕ) → leavesLinked s (p ∷ l) ≡ true → (nextLeaf (page s p) ≡ front l) × (leavesLinked s l ≡ true) × NotZero l
   unfolding leavesLinked
-  linked-first p [] e = (eqb-true (nextLeaf (page p s)) 0 e, refl, tt)
+  linked-first p [] e = (eqb-true (nextLeaf (page s p)) 0 e, refl, tt)
   linked-first p (y ∷ ys) e =
-      let a = and-both (eqb (nextLeaf (page p s)) y) (not (eqb y 0) && leavesLinked s (y ∷ ys)) e in
+      let a = and-both (eqb (nextLeaf (page s p)) y) (not (eqb y 0) && leavesLinked s (y ∷ ys)) e in
       let b = and-both (not (eqb y 0)) (leavesLinked s (y ∷ ys)) (a .1) in
-      (eqb-true (nextLeaf (page p s)) y (a .0), b .1, eqb-false y 0 (not-true (eqb y 0) (b .0)))
+      (eqb-true (nextLeaf (page s p)) y (a .0), b .1, eqb-false y 0 (not-true (eqb y 0) (b .0)))
 
-  first-linked : (p : ℕ) (l : List ℕ) → nextLeaf (page p s) ≡ front l → leavesLinked s l ≡ true → NotZero l → leavesLinked s (p ∷ l) ≡ true
+  first-linked : (p : ℕ) (l : List ℕ) → nextLeaf (page s p) ≡ front l → leavesLinked s l ≡ true → NotZero l → leavesLinked s (p ∷ l) ≡ true
   unfolding leavesLinked
-  first-linked p [] n e z = eq-eqb (nextLeaf (page p s)) 0 n
-  first-linked p (y ∷ ys) n e z = rw (eq-eqb (nextLeaf (page p s)) y n, ne-eqb y 0 z) e
+  first-linked p [] n e z = eq-eqb (nextLeaf (page s p)) 0 n
+  first-linked p (y ∷ ys) n e z = rw (eq-eqb (nextLeaf (page s p)) y n, ne-eqb y 0 z) e
 
   pub links-of : (t : Shape) (l : List ℕ) → leavesLinked s (ends t ++ l) ≡ true → Links s (front l) t × (leavesLinked s l ≡ true) × NotZero l
   links-of (leaf p rs) l e = linked-first p l e
@@ -125,22 +125,22 @@ module _ (s : List ℕ) where
 -- ---- all pages, and the leaves
 
 module _ (s : List ℕ) where
-  roots-kids : (par p j : ℕ) (f : Shape) → view s p ≡ innerPage par j (head f) (rest f) → childrenOf (page p s) ≡ roots f
+  roots-kids : (par p j : ℕ) (f : Shape) → view s p ≡ innerPage par j (head f) (rest f) → childrenOf (page s p) ≡ roots f
   roots-kids par p j f h = children-of s p par j (head f) (rest f) h ∙ sym (roots-is f)
 
-  pub pages-of : (n par : ℕ) (t : Shape) → Hung s par t → Deep n t → pagesIn t ≡ eachOf (pagesOf n s) (roots t)
+  pub pages-of : (n par : ℕ) (t : Shape) → Hung s par t → Deep n t → pagesIn t ≡ eachOf (pagesOf s n) (roots t)
   unfolding eachOf pagesOf
   pages-of n par (leaf p rs) h d = rw d
   pages-of n par (node p f) h d =
-      rw (d .1, roots-kids par p (h .0) f (h .1), append-nil (eachOf (pagesOf (d .0) s) (roots f)))
+      rw (d .1, roots-kids par p (h .0) f (h .1), append-nil (eachOf (pagesOf s (d .0)) (roots f)))
       (ap (λ (l : List ℕ). p ∷ l) (pages-of (d .0) p f (h .2) (d .2)))
   pages-of n par (pair a k b) h d = rw (each-append, pages-of n par a (h .0) (d .0), pages-of n par b (h .1) (d .1))
 
-  pub ends-of : (n par : ℕ) (t : Shape) → Hung s par t → Deep n t → ends t ≡ eachOf (leavesOf n s) (roots t)
+  pub ends-of : (n par : ℕ) (t : Shape) → Hung s par t → Deep n t → ends t ≡ eachOf (leavesOf s n) (roots t)
   unfolding eachOf leavesOf
   ends-of n par (leaf p rs) h d = rw d
   ends-of n par (node p f) h d =
-      rw (d .1, roots-kids par p (h .0) f (h .1), append-nil (eachOf (leavesOf (d .0) s) (roots f))) (ends-of (d .0) p f (h .2) (d .2))
+      rw (d .1, roots-kids par p (h .0) f (h .1), append-nil (eachOf (leavesOf s (d .0)) (roots f))) (ends-of (d .0) p f (h .2) (d .2))
   ends-of n par (pair a k b) h d = rw (each-append, ends-of n par a (h .0) (d .0), ends-of n par b (h .1) (d .1))
 
 -- ---- none twice

@@ -114,19 +114,19 @@ pub record LeafFits (lo hi : ℕ) (pg : List ℕ) : Type 0 where
   pub keys : KeysIn lo hi (rows pg)
   pub sorted : Sorted (rows pg)
 
-judged-type : (p : ℕ) (pg : List ℕ) (e : ℕ) → judgeLeaf p pg ≡ Judged.Ok e → nodeType pg ≡ 1
+judged-type : (p : ℕ) (pg : List ℕ) (e : ℕ) → judgeLeaf pg p ≡ Judged.Ok e → nodeType pg ≡ 1
 unfolding judgeLeaf
 judged-type p pg e h = by-type (eqb (nodeType pg) 1) refl h
   where
-    by-type : (b : Bool) → eqb (nodeType pg) 1 ≡ b → pick b (judgeCells p 0 0 (cellCount pg) 12 pg) (Judged.Bad (structural p)) ≡ Judged.Ok e → nodeType pg ≡ 1
+    by-type : (b : Bool) → eqb (nodeType pg) 1 ≡ b → pick b (judgeCells pg p 0 0 (cellCount pg) 12) (Judged.Bad (structural p)) ≡ Judged.Ok e → nodeType pg ≡ 1
     by-type true t q = eqb-true (nodeType pg) 1 t
     by-type false t q = absurd (let z : _≡_ {A = ℕ} 0 1 = cc in omega arith)
 
-pub leaf-fits : (lo hi p : ℕ) (pg : List ℕ) → lo ≤ hi → cellsWithin lo hi p pg ≡ true → LeafFits lo hi pg
+pub leaf-fits : (lo hi p : ℕ) (pg : List ℕ) → lo ≤ hi → cellsWithin pg lo hi p ≡ true → LeafFits lo hi pg
 unfolding cellsWithin
-leaf-fits lo hi p pg h c = by-judged (judgeLeaf p pg) refl c
+leaf-fits lo hi p pg h c = by-judged (judgeLeaf pg p) refl c
   where
-    by-judged : (j : Judged) → judgeLeaf p pg ≡ j → onJudged (λ e. foldCells (λ b c. b && within lo hi (c .key)) true (cells pg)) (λ f. false) j ≡ true
+    by-judged : (j : Judged) → judgeLeaf pg p ≡ j → onJudged (λ e. foldCells (λ b c. b && within lo hi (c .key)) true (cells pg)) (λ f. false) j ≡ true
         → LeafFits lo hi pg
     by-judged (Judged.Bad f) q u = absurd (false≢true u)
     by-judged (Judged.Ok e) q u =
@@ -139,7 +139,7 @@ leaf-fits lo hi p pg h c = by-judged (judgeLeaf p pg) refl c
           sorted = g;
         }
 
-pub leaf-within : (lo hi p : ℕ) (pg : List ℕ) → LeafFits lo hi pg → cellsWithin lo hi p pg ≡ true
+pub leaf-within : (lo hi p : ℕ) (pg : List ℕ) → LeafFits lo hi pg → cellsWithin pg lo hi p ≡ true
 unfolding cellsWithin
 leaf-within lo hi p pg f =
     let j = leaf-judged p pg (f .type) (f .count) (f .sorted) in
@@ -195,7 +195,7 @@ pub record InnerFits (lo hi : ℕ) (pg : List ℕ) : Type 0 where
   pub high : cellCount pg ≤ 510
   pub keys : Climbs lo hi (keysOf pg)
 
-pub inner-fits : (lo hi p : ℕ) (pg : List ℕ) → lo ≤ hi → onInner (λ n. allWithin lo hi (keysOf pg)) (λ f. false) (judgeInner p pg) ≡ true → InnerFits lo hi pg
+pub inner-fits : (lo hi p : ℕ) (pg : List ℕ) → lo ≤ hi → onInner (λ n. allWithin lo hi (keysOf pg)) (λ f. false) (judgeInner pg p) ≡ true → InnerFits lo hi pg
 unfolding judgeInner
 inner-fits lo hi p pg h e =
     by-test (eqb (nodeType pg) 0 && (leb 1 (cellCount pg) && (leb (cellCount pg) 510 && neverFalls 0 (keysOf pg)))) refl e
@@ -214,7 +214,7 @@ inner-fits lo hi p pg h e =
           keys = climbs-is lo hi (keysOf pg) h (c .1) q;
         }
 
-pub inner-within : (lo hi p : ℕ) (pg : List ℕ) → InnerFits lo hi pg → onInner (λ n. allWithin lo hi (keysOf pg)) (λ f. false) (judgeInner p pg) ≡ true
+pub inner-within : (lo hi p : ℕ) (pg : List ℕ) → InnerFits lo hi pg → onInner (λ n. allWithin lo hi (keysOf pg)) (λ f. false) (judgeInner pg p) ≡ true
 inner-within lo hi p pg f =
     rw (← judge-ok p pg (f .type) refl (f .low) (f .high) refl (climbs-falls 0 lo hi (keysOf pg) (omega arith) (f .keys)))
     (climbs-within lo lo hi (keysOf pg) (omega arith) (f .keys))
@@ -222,25 +222,25 @@ inner-within lo hi p pg f =
 -- ---- a page of the pool
 
 module _ (used parent p lo hi : ℕ) (s : List ℕ) where
-  pub leaf-sound : p < used → parentOf (page p s) ≡ parent → LeafFits lo hi (page p s) → soundLeaf s used parent p lo hi ≡ true
+  pub leaf-sound : p < used → parentOf (page s p) ≡ parent → LeafFits lo hi (page s p) → soundLeaf s used parent p lo hi ≡ true
   unfolding soundLeaf
-  leaf-sound h e f = rw (lt-ltb p used h, eq-eqb (parentOf (page p s)) parent e) (leaf-within lo hi p (page p s) f)
+  leaf-sound h e f = rw (lt-ltb p used h, eq-eqb (parentOf (page s p)) parent e) (leaf-within lo hi p (page s p) f)
 
-  pub inner-sound : p < used → parentOf (page p s) ≡ parent → InnerFits lo hi (page p s) → soundInner s used parent p lo hi ≡ true
+  pub inner-sound : p < used → parentOf (page s p) ≡ parent → InnerFits lo hi (page s p) → soundInner s used parent p lo hi ≡ true
   unfolding soundInner
-  inner-sound h e f = rw (lt-ltb p used h, eq-eqb (parentOf (page p s)) parent e) (inner-within lo hi p (page p s) f)
+  inner-sound h e f = rw (lt-ltb p used h, eq-eqb (parentOf (page s p)) parent e) (inner-within lo hi p (page s p) f)
 
-  pub sound-leaf : lo ≤ hi → soundLeaf s used parent p lo hi ≡ true → (p < used) × (parentOf (page p s) ≡ parent) × LeafFits lo hi (page p s)
+  pub sound-leaf : lo ≤ hi → soundLeaf s used parent p lo hi ≡ true → (p < used) × (parentOf (page s p) ≡ parent) × LeafFits lo hi (page s p)
   unfolding soundLeaf
   sound-leaf h e =
-      let a = and-both (ltb p used) (eqb (parentOf (page p s)) parent && cellsWithin lo hi p (page p s)) e in
-      let b = and-both (eqb (parentOf (page p s)) parent) (cellsWithin lo hi p (page p s)) (a .1) in
-      (ltb-true p used (a .0), eqb-true (parentOf (page p s)) parent (b .0), leaf-fits lo hi p (page p s) h (b .1))
+      let a = and-both (ltb p used) (eqb (parentOf (page s p)) parent && cellsWithin (page s p) lo hi p) e in
+      let b = and-both (eqb (parentOf (page s p)) parent) (cellsWithin (page s p) lo hi p) (a .1) in
+      (ltb-true p used (a .0), eqb-true (parentOf (page s p)) parent (b .0), leaf-fits lo hi p (page s p) h (b .1))
 
-  pub sound-inner : lo ≤ hi → soundInner s used parent p lo hi ≡ true → (p < used) × (parentOf (page p s) ≡ parent) × InnerFits lo hi (page p s)
+  pub sound-inner : lo ≤ hi → soundInner s used parent p lo hi ≡ true → (p < used) × (parentOf (page s p) ≡ parent) × InnerFits lo hi (page s p)
   unfolding soundInner
   sound-inner h e =
-      let judged = onInner (λ n. allWithin lo hi (keysOf (page p s))) (λ f. false) (judgeInner p (page p s)) in
-      let a = and-both (ltb p used) (eqb (parentOf (page p s)) parent && judged) e in
-      let b = and-both (eqb (parentOf (page p s)) parent) judged (a .1) in
-      (ltb-true p used (a .0), eqb-true (parentOf (page p s)) parent (b .0), inner-fits lo hi p (page p s) h (b .1))
+      let judged = onInner (λ n. allWithin lo hi (keysOf (page s p))) (λ f. false) (judgeInner (page s p) p) in
+      let a = and-both (ltb p used) (eqb (parentOf (page s p)) parent && judged) e in
+      let b = and-both (eqb (parentOf (page s p)) parent) judged (a .1) in
+      (ltb-true p used (a .0), eqb-true (parentOf (page s p)) parent (b .0), inner-fits lo hi p (page s p) h (b .1))

@@ -115,7 +115,7 @@ each-page P w par nxt (pair a k b) c i h g =
 -- the page pg, which was judged as page p, its cells ending at e
 pub record LeafIs (p e : ℕ) (pg : List ℕ) : Type 0 where
   pub type : nodeType pg ≡ 1
-  pub judged : judgeLeaf p pg ≡ Judged.Ok e
+  pub judged : judgeLeaf pg p ≡ Judged.Ok e
   pub sound : Sound pg e
 
 -- the pool is of bytes and has the pages in use
@@ -127,7 +127,7 @@ module _ (used : ℕ) (s : List ℕ) (l : Loc) (h : PoolHas used s) (a : AtLeaf 
   leaf-there : There (l .page) s
   leaf-there = omega (arith, h .room, a .in-use)
 
-  leaf-is : LeafIs (l .page) (a .end) (page (l .page) s)
+  leaf-is : LeafIs (l .page) (a .end) (page s (l .page))
   leaf-is =
       record {
         type = a .says .type;
@@ -136,7 +136,7 @@ module _ (used : ℕ) (s : List ℕ) (l : Loc) (h : PoolHas used s) (a : AtLeaf 
             record {
               bytes = bytes-page (l .page) s (h .bytes);
               whole = length-page (l .page) s leaf-there;
-              judged = any-page (l .page) 0 (a .end) (page (l .page) s) (a .judged);
+              judged = any-page (l .page) 0 (a .end) (page s (l .page)) (a .judged);
             };
       }
 
@@ -187,10 +187,10 @@ module _ (f : List Row → List Row) (p e : ℕ) (pg : List ℕ) (is : LeafIs p 
 
 -- ---- walks, and pages that stay
 
-gather-off : {A : Type 0} (step : A → ℕ → List ℕ → A) (s s′ : List ℕ) (a : A) (ls : List Loc) → All (λ (l : Loc). page (l .page) s′ ≡ page (l .page) s) ls
+gather-off : {A : Type 0} (step : A → ℕ → List ℕ → A) (s s′ : List ℕ) (a : A) (ls : List Loc) → All (λ (l : Loc). page s′ (l .page) ≡ page s (l .page)) ls
     → gather step s′ a ls ≡ gather step s a ls
 gather-off step s s′ a [] e = refl
-gather-off step s s′ a (l ∷ ls) e = rw (e .0) (gather-off step s s′ (step a (l .page) (page (l .page) s)) ls (e .1))
+gather-off step s s′ a (l ∷ ls) e = rw (e .0) (gather-off step s s′ (step a (l .page) (page s (l .page))) ls (e .1))
 
 up-to-each : (P : Loc → Type 0) (ends : List Row → Bool) (ls : List Loc) → All P ls → All P (upTo ends ls)
 up-to-each P ends [] h = tt
@@ -203,7 +203,7 @@ up-to-each P ends (l ∷ ls) h = (h .0, by-end (ends (l .cells)) (up-to-each P e
 module _ (f : List Row → List Row) (change : ℕ → List ℕ → List ℕ) (changes : (p e : ℕ) (pg : List ℕ) → LeafIs p e pg → Changed f pg (change p pg)) where
   -- page p, and all of ls
   abbrev pub changedAt : ℕ → List ℕ → List ℕ
-  changedAt p s = setPage p (change p (page p s)) s
+  changedAt p s = setPage p (change p (page s p)) s
 
   abbrev pub changed : List Loc → List ℕ → List ℕ
   changed [] s = s
@@ -211,25 +211,25 @@ module _ (f : List Row → List Row) (change : ℕ → List ℕ → List ℕ) (c
 
   module _ (used : ℕ) where
     module _ (s : List ℕ) (l : Loc) (h : PoolHas used s) (a : AtLeaf s used l) where
-      made : Changed f (page (l .page) s) (change (l .page) (page (l .page) s))
-      made = changes (l .page) (a .end) (page (l .page) s) (leaf-is used s l h a)
+      made : Changed f (page s (l .page)) (change (l .page) (page s (l .page)))
+      made = changes (l .page) (a .end) (page s (l .page)) (leaf-is used s l h a)
 
       long-at : length (changedAt (l .page) s) ≡ length s
-      long-at = length-setPage (l .page) (change (l .page) (page (l .page) s)) s (leaf-there used s l h a) (made .long)
+      long-at = length-setPage (l .page) (change (l .page) (page s (l .page))) s (leaf-there used s l h a) (made .long)
 
       has-at : PoolHas used (changedAt (l .page) s)
-      has-at = record { bytes = bytes-set-page (l .page) (change (l .page) (page (l .page) s)) s (made .bytes) (h .bytes); room = rw long-at (h .room) }
+      has-at = record { bytes = bytes-set-page (l .page) (change (l .page) (page s (l .page))) s (made .bytes) (h .bytes); room = rw long-at (h .room) }
 
-      page-at : page (l .page) (changedAt (l .page) s) ≡ change (l .page) (page (l .page) s)
-      page-at = page-setPage (l .page) (change (l .page) (page (l .page) s)) s (leaf-there used s l h a) (made .long)
+      page-at : page (changedAt (l .page) s) (l .page) ≡ change (l .page) (page s (l .page))
+      page-at = page-setPage (l .page) (change (l .page) (page s (l .page))) s (leaf-there used s l h a) (made .long)
 
-      page-off : (q : ℕ) → (q ≡ l .page → ⊥) → page q (changedAt (l .page) s) ≡ page q s
-      page-off = page-setPage-other (l .page) (change (l .page) (page (l .page) s)) s (leaf-there used s l h a) (made .long)
+      page-off : (q : ℕ) → (q ≡ l .page → ⊥) → page (changedAt (l .page) s) q ≡ page s q
+      page-off = page-setPage-other (l .page) (change (l .page) (page s (l .page))) s (leaf-there used s l h a) (made .long)
 
       -- the leaves that are left stand as they stood
       leaf-off : (k : Loc) → AtLeaf s used k → (l .page ≡ k .page → ⊥) → AtLeaf (changedAt (l .page) s) used k
       leaf-off k b o =
-          let e : page (k .page) (changedAt (l .page) s) ≡ page (k .page) s = page-off (k .page) (λ q. o (sym q)) in
+          let e : page (changedAt (l .page) s) (k .page) ≡ page s (k .page) = page-off (k .page) (λ q. o (sym q)) in
           record { says = rw e (b .says); in-use = b .in-use; end = b .end; judged = rw e (b .judged) }
 
       leaves-off : (ls : List Loc) → All (AtLeaf s used) ls → Apart (l .page) ls → All (AtLeaf (changedAt (l .page) s) used) ls
@@ -238,8 +238,8 @@ module _ (f : List Row → List Row) (change : ℕ → List ℕ → List ℕ) (c
     record After (ls : List Loc) (s : List ℕ) : Type 0 where
       has : PoolHas used (changed ls s)
       long : length (changed ls s) ≡ length s
-      met : All (λ (l : Loc). page (l .page) (changed ls s) ≡ change (l .page) (page (l .page) s)) ls
-      else : (q : ℕ) → Apart q ls → page q (changed ls s) ≡ page q s
+      met : All (λ (l : Loc). page (changed ls s) (l .page) ≡ change (l .page) (page s (l .page))) ls
+      else : (q : ℕ) → Apart q ls → page (changed ls s) q ≡ page s q
 
     after : (ls : List Loc) (s : List ℕ) → PoolHas used s → Distinct ls → All (AtLeaf s used) ls → After ls s
     after [] s h d a = record { has = h; long = refl; met = tt; else = λ q o. refl }
@@ -251,8 +251,8 @@ module _ (f : List Row → List Row) (change : ℕ → List ℕ → List ℕ) (c
           long = i .long ∙ long-at s l h (a .0);
           met = (
             i .else (l .page) (d .0) ∙ page-at s l h (a .0),
-            all-two (λ (k : Loc). l .page ≡ k .page → ⊥) (λ (k : Loc). page (k .page) (changed ls t) ≡ change (k .page) (page (k .page) t))
-                (λ (k : Loc). page (k .page) (changed ls t) ≡ change (k .page) (page (k .page) s))
+            all-two (λ (k : Loc). l .page ≡ k .page → ⊥) (λ (k : Loc). page (changed ls t) (k .page) ≡ change (k .page) (page t (k .page)))
+                (λ (k : Loc). page (changed ls t) (k .page) ≡ change (k .page) (page s (k .page)))
                 (λ k o e. e ∙ ap (change (k .page)) (page-off s l h (a .0) (k .page) (λ q. o (sym q)))) ls (d .0) (i .met),
           );
           else = λ q o. i .else q (o .1) ∙ page-off s l h (a .0) q (o .0);
@@ -273,20 +273,20 @@ module _ (f : List Row → List Row) (change : ℕ → List ℕ → List ℕ) (c
     HeldAt l = view s (l .page) ≡ leafPage (parC 0 (l .ctx)) (nxtC 0 (l .ctx)) (l .cells)
 
     -- a leaf that is met, and one that is not and whose rows stay
-    view-met : (s′ : List ℕ) (l : Loc) → AtLeaf s used l × HeldAt l → page (l .page) s′ ≡ change (l .page) (page (l .page) s) → OnLeaf s′ (l .page)
+    view-met : (s′ : List ℕ) (l : Loc) → AtLeaf s used l × HeldAt l → page s′ (l .page) ≡ change (l .page) (page s (l .page)) → OnLeaf s′ (l .page)
     view-met s′ l b e =
         let a = b .0 in
-        let m = changes (l .page) (a .end) (page (l .page) s) (leaf-is used s l h a) in
+        let m = changes (l .page) (a .end) (page s (l .page)) (leaf-is used s l h a) in
         let v = b .1 in
         view-page (l .page) s′ ∙ (ap said e ∙ (m .says ∙ rw (v, a .says .parent, a .says .next, a .says .rows-are)))
 
-    view-off : (s′ : List ℕ) (l : Loc) → HeldAt l × (f (l .cells) ≡ l .cells) → page (l .page) s′ ≡ page (l .page) s → OnLeaf s′ (l .page)
+    view-off : (s′ : List ℕ) (l : Loc) → HeldAt l × (f (l .cells) ≡ l .cells) → page s′ (l .page) ≡ page s (l .page) → OnLeaf s′ (l .page)
     view-off s′ l b e =
         let v = b .0 in
         let q = b .1 in
         view-page (l .page) s′ ∙ (ap said e ∙ (sym (view-page (l .page) s) ∙ rw (v, q)))
 
-    views-off : (s′ : List ℕ) (met ls : List Loc) → ((q : ℕ) → Apart q met → page q s′ ≡ page q s) → All (λ (l : Loc). Apart (l .page) met) ls → All HeldAt ls
+    views-off : (s′ : List ℕ) (met ls : List Loc) → ((q : ℕ) → Apart q met → page s′ q ≡ page s q) → All (λ (l : Loc). Apart (l .page) met) ls → All HeldAt ls
         → All (λ (l : Loc). f (l .cells) ≡ l .cells) ls → All (λ (l : Loc). OnLeaf s′ (l .page)) ls
     views-off s′ met ls stays a v q =
         all-two (λ (l : Loc). HeldAt l × (f (l .cells) ≡ l .cells)) (λ (l : Loc). Apart (l .page) met) (λ (l : Loc). OnLeaf s′ (l .page))
@@ -311,7 +311,7 @@ module _ (f : List Row → List Row) (change : ℕ → List ℕ → List ℕ) (c
         (λ l o. all-left (λ (k : Loc). l .page ≡ k .page → ⊥) met left o) passed (distinct-apart passed (met ++ left) d) in
         let from-met = apart-flip met left (distinct-apart met left d′) in
         let these =
-        all-two (λ (l : Loc). AtLeaf s used l × HeldAt l) (λ (l : Loc). page (l .page) s′ ≡ change (l .page) (page (l .page) s)) (λ (l : Loc). OnLeaf s′ (l .page))
+        all-two (λ (l : Loc). AtLeaf s used l × HeldAt l) (λ (l : Loc). page s′ (l .page) ≡ change (l .page) (page s (l .page))) (λ (l : Loc). OnLeaf s′ (l .page))
         (λ l b e. view-met s′ l b e) met
         (all-two (AtLeaf s used) HeldAt (λ (l : Loc). AtLeaf s used l × HeldAt l) (λ l x y. (x, y)) met (leaves .1 .0) (helds .1 .0)) (r .met) in
         let each : All (λ (l : Loc). OnLeaf s′ (l .page)) (locs t top) =
@@ -333,32 +333,32 @@ module _ (f : List Row → List Row) (change : ℕ → List ℕ → List ℕ) (c
 
   -- m pages at most; it gathers by step, says at its end what done says, and ends by a leaf's rows or with the chain
   module _ {A B : Type 0} (used : ℕ) (walk : ℕ → A → ℕ → List ℕ → B) (done : A → List ℕ → B) (ends : List Row → Bool) (step : A → ℕ → List ℕ → A)
-      (last : (m : ℕ) (a : A) (p e : ℕ) (s : List ℕ) → p < used → LeafIs p e (page p s) → ends (rows (page p s)) ≡ true
-      → walk (suc m) a p s ≡ done (step a p (page p s)) (changedAt p s))
-      (end : (m : ℕ) (a : A) (p e : ℕ) (s : List ℕ) → p < used → LeafIs p e (page p s) → ends (rows (page p s)) ≡ false → nextLeaf (page p s) ≡ 0
-      → walk (suc m) a p s ≡ done (step a p (page p s)) (changedAt p s))
-      (on : (m : ℕ) (a : A) (p e n : ℕ) (s : List ℕ) → p < used → LeafIs p e (page p s) → ends (rows (page p s)) ≡ false → nextLeaf (page p s) ≡ n → (n ≡ 0 → ⊥)
-      → walk (suc m) a p s ≡ walk m (step a p (page p s)) n (changedAt p s)) where
+      (last : (m : ℕ) (a : A) (p e : ℕ) (s : List ℕ) → p < used → LeafIs p e (page s p) → ends (rows (page s p)) ≡ true
+      → walk (suc m) a p s ≡ done (step a p (page s p)) (changedAt p s))
+      (end : (m : ℕ) (a : A) (p e : ℕ) (s : List ℕ) → p < used → LeafIs p e (page s p) → ends (rows (page s p)) ≡ false → nextLeaf (page s p) ≡ 0
+      → walk (suc m) a p s ≡ done (step a p (page s p)) (changedAt p s))
+      (on : (m : ℕ) (a : A) (p e n : ℕ) (s : List ℕ) → p < used → LeafIs p e (page s p) → ends (rows (page s p)) ≡ false → nextLeaf (page s p) ≡ n → (n ≡ 0 → ⊥)
+      → walk (suc m) a p s ≡ walk m (step a p (page s p)) n (changedAt p s)) where
     walk-list : (m : ℕ) (a : A) (l : Loc) (ls : List Loc) (s : List ℕ) → length ls < m → PoolHas used s → Distinct (l ∷ ls) → All (AtLeaf s used) (l ∷ ls)
         → Linked 0 0 (l ∷ ls) → Nz ls → walk m a (l .page) s ≡ done (gather step s a (upTo ends (l ∷ ls))) (changed (upTo ends (l ∷ ls)) s)
     walk-list zero a l ls s n h d g k o = absurd (omega arith)
     walk-list (suc m) a l ls s n h d g k o = by-end (ends (l .cells)) ls n d (g .1) k o (ap ends (g .0 .says .rows-are)) (walk-list m)
       where
         by-end : (x : Bool) (ls : List Loc) → length ls < suc m → Distinct (l ∷ ls) → All (AtLeaf s used) ls → Linked 0 0 (l ∷ ls) → Nz ls
-            → ends (rows (page (l .page) s)) ≡ x
+            → ends (rows (page s (l .page))) ≡ x
             → ((b : A) (l′ : Loc) (ls′ : List Loc) (s′ : List ℕ) → length ls′ < m → PoolHas used s′ → Distinct (l′ ∷ ls′) → All (AtLeaf s′ used) (l′ ∷ ls′)
             → Linked 0 0 (l′ ∷ ls′) → Nz ls′ → walk m b (l′ .page) s′ ≡ done (gather step s′ b (upTo ends (l′ ∷ ls′))) (changed (upTo ends (l′ ∷ ls′)) s′))
             → walk (suc m) a (l .page) s
-            ≡ done (gather step s (step a (l .page) (page (l .page) s)) (pick x [] (upTo ends ls))) (changed (pick x [] (upTo ends ls)) (changedAt (l .page) s))
+            ≡ done (gather step s (step a (l .page) (page s (l .page))) (pick x [] (upTo ends ls))) (changed (pick x [] (upTo ends ls)) (changedAt (l .page) s))
         by-end true ls n d a′ k o e ih = last m a (l .page) (g .0 .end) s (g .0 .in-use) (leaf-is used s l h (g .0)) e
         by-end false [] n d a′ k o e ih = end m a (l .page) (g .0 .end) s (g .0 .in-use) (leaf-is used s l h (g .0)) e (g .0 .says .next ∙ k .0)
         by-end false (l′ ∷ ls′) n d a′ k o e ih =
             let t = changedAt (l .page) s in
             let rest = upTo ends (l′ ∷ ls′) in
-            let b = step a (l .page) (page (l .page) s) in
-            let stays : All (λ (j : Loc). page (j .page) t ≡ page (j .page) s) rest =
-            up-to-each (λ (j : Loc). page (j .page) t ≡ page (j .page) s) ends (l′ ∷ ls′)
-            (all-map (λ (j : Loc). l .page ≡ j .page → ⊥) (λ (j : Loc). page (j .page) t ≡ page (j .page) s)
+            let b = step a (l .page) (page s (l .page)) in
+            let stays : All (λ (j : Loc). page t (j .page) ≡ page s (j .page)) rest =
+            up-to-each (λ (j : Loc). page t (j .page) ≡ page s (j .page)) ends (l′ ∷ ls′)
+            (all-map (λ (j : Loc). l .page ≡ j .page → ⊥) (λ (j : Loc). page t (j .page) ≡ page s (j .page))
             (λ j o. page-off used s l h (g .0) (j .page) (λ q. o (sym q))) (l′ ∷ ls′) (d .0)) in
             on m a (l .page) (g .0 .end) (l′ .page) s (g .0 .in-use) (leaf-is used s l h (g .0)) e (g .0 .says .next ∙ k .0) (o .0)
             ∙ (ih b l′ ls′ t (let z : suc (length ls′) < suc m = n in omega arith)

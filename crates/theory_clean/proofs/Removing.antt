@@ -47,12 +47,12 @@ module _ (key : ℕ) where
   -- ---- the count
 
   abbrev step : ℕ → ℕ → List ℕ → ℕ
-  step n p pg = n + length (heldRows key pg)
+  step n p pg = n + length (heldRows pg key)
 
-  count-says : (n p : ℕ) (pg : List ℕ) (e : ℕ) → judgeLeaf p pg ≡ Judged.Ok e → lookHeld key n p pg ≡ pick (larger key (rows pg)) (stop (step n p pg)) (go (step n p pg))
+  count-says : (n p : ℕ) (pg : List ℕ) (e : ℕ) → judgeLeaf pg p ≡ Judged.Ok e → lookHeld key n p pg ≡ pick (larger key (rows pg)) (stop (step n p pg)) (go (step n p pg))
   count-says n p pg e j = rw (j, larger-is key pg)
 
-  count-skips : (n p : ℕ) (pg : List ℕ) (e : ℕ) → judgeLeaf p pg ≡ Judged.Ok e → All (λ (r : Row). ofKey key r ≡ false) (rows pg) → step n p pg ≡ n
+  count-skips : (n p : ℕ) (pg : List ℕ) (e : ℕ) → judgeLeaf pg p ≡ Judged.Ok e → All (λ (r : Row). ofKey key r ≡ false) (rows pg) → step n p pg ≡ n
   count-skips n p pg e j o =
       let z : length (only (ofKey key) (rows pg)) ≡ 0 = ap length (filt-none (ofKey key) (rows pg) o) in
       omega arith
@@ -72,31 +72,31 @@ module _ (key : ℕ) where
 
   -- a leaf without its rows of the key
   abbrev pub cleared : ℕ → List ℕ → List ℕ
-  cleared p pg = removedLeaf key pg
+  cleared p pg = removedLeaf pg key
 
   pub clears : (p e : ℕ) (pg : List ℕ) → LeafIs p e pg → Changed othersOf pg (cleared p pg)
   unfolding removedLeaf
-  clears p e pg is = by-count (eqb (length (heldRows key pg)) 0) refl
+  clears p e pg is = by-count (eqb (length (heldRows pg key)) 0) refl
     where
       others : Row → Bool
       others x = not (ofKey key x)
 
-      by-count : (b : Bool) → eqb (length (heldRows key pg)) 0 ≡ b → Changed othersOf pg (pick b pg (writeRows (othersOf (rows pg)) pg))
-      by-count true q = unchanged othersOf p e pg is (only-others (ofKey key) (rows pg) (eqb-true (length (heldRows key pg)) 0 q))
+      by-count : (b : Bool) → eqb (length (heldRows pg key)) 0 ≡ b → Changed othersOf pg (pick b pg (writeRows (othersOf (rows pg)) pg))
+      by-count true q = unchanged othersOf p e pg is (only-others (ofKey key) (rows pg) (eqb-true (length (heldRows pg key)) 0 q))
       by-count false q = rewritten othersOf p e pg is (filt-all HasBytes others (rows pg)) (only-fits others (rows pg)) (only-short others (rows pg))
 
-  module _ (used m p e : ℕ) (s : List ℕ) (low : p < used) (is : LeafIs p e (page p s)) where
-    pub clear-last : larger key (rows (page p s)) ≡ true → removedAlong s used p key (suc m) ≡ changedAt othersOf cleared clears p s
-    clear-last l = sym (remove-last used key p s low (is .judged) refl (larger-is key (page p s)) (suc m) (omega arith) l)
+  module _ (used m p e : ℕ) (s : List ℕ) (low : p < used) (is : LeafIs p e (page s p)) where
+    pub clear-last : larger key (rows (page s p)) ≡ true → removedAlong s used p key (suc m) ≡ changedAt othersOf cleared clears p s
+    clear-last l = sym (remove-last used key p s low (is .judged) refl (larger-is key (page s p)) (suc m) (omega arith) l)
 
-    pub clear-end : larger key (rows (page p s)) ≡ false → nextLeaf (page p s) ≡ 0 → removedAlong s used p key (suc m) ≡ changedAt othersOf cleared clears p s
-    clear-end l z = sym (remove-end used key p s low (is .judged) refl (larger-is key (page p s)) refl (suc m) (omega arith) l z)
+    pub clear-end : larger key (rows (page s p)) ≡ false → nextLeaf (page s p) ≡ 0 → removedAlong s used p key (suc m) ≡ changedAt othersOf cleared clears p s
+    clear-end l z = sym (remove-end used key p s low (is .judged) refl (larger-is key (page s p)) refl (suc m) (omega arith) l z)
 
-    pub clear-on : (n : ℕ) → larger key (rows (page p s)) ≡ false → nextLeaf (page p s) ≡ n → (n ≡ 0 → ⊥)
+    pub clear-on : (n : ℕ) → larger key (rows (page s p)) ≡ false → nextLeaf (page s p) ≡ n → (n ≡ 0 → ⊥)
         → removedAlong s used p key (suc m) ≡ removedAlong (changedAt othersOf cleared clears p s) used n key m
     clear-on n l q z =
         let k : suc m - 1 ≡ m = omega arith in
-        sym (rw k at (remove-on used key p s low (is .judged) refl (larger-is key (page p s)) (sym q) (suc m) (omega arith) l z))
+        sym (rw k at (remove-on used key p s low (is .judged) refl (larger-is key (page s p)) (sym q) (suc m) (omega arith) l z))
 
   module _ (s : List ℕ) (root used : ℕ) (t : Shape) (w : WellFormed (view s) root used t) (h : PoolHas used s) where
     abbrev met : List Loc

@@ -151,7 +151,7 @@ module _ (x : ℕ → ℕ) (bound : ℕ) where
 
   -- a leaf with what is kept
   abbrev pub swept : ℕ → List ℕ → List ℕ
-  swept p pg = vacuumedLeaf x bound pg .page
+  swept p pg = vacuumedLeaf pg x bound .page
 
   pub sweeps : (p e : ℕ) (pg : List ℕ) → LeafIs p e pg → Changed kept pg (swept p pg)
   unfolding vacuumedLeaf
@@ -164,13 +164,13 @@ module _ (x : ℕ → ℕ) (bound : ℕ) where
   abbrev pub step : ℕ → ℕ → List ℕ → ℕ
   step n p pg = n + droppedRows x bound (rows pg)
 
-  module _ (used m d p e : ℕ) (s : List ℕ) (low : p < used) (is : LeafIs p e (page p s)) where
-    pub sweep-end : nextLeaf (page p s) ≡ 0 → vacuumedAlong s used p x bound (suc m) d ≡ ended (step d p (page p s)) (changedAt kept swept sweeps p s)
+  module _ (used m d p e : ℕ) (s : List ℕ) (low : p < used) (is : LeafIs p e (page s p)) where
+    pub sweep-end : nextLeaf (page s p) ≡ 0 → vacuumedAlong s used p x bound (suc m) d ≡ ended (step d p (page s p)) (changedAt kept swept sweeps p s)
     unfolding vacuumedLeaf
     sweep-end z = sym (vacuum-end x bound used d p s low refl (is .judged) refl refl refl (suc m) (omega arith) z)
 
-    pub sweep-on : (n : ℕ) → nextLeaf (page p s) ≡ n → (n ≡ 0 → ⊥)
-        → vacuumedAlong s used p x bound (suc m) d ≡ vacuumedAlong (changedAt kept swept sweeps p s) used n x bound m (step d p (page p s))
+    pub sweep-on : (n : ℕ) → nextLeaf (page s p) ≡ n → (n ≡ 0 → ⊥)
+        → vacuumedAlong s used p x bound (suc m) d ≡ vacuumedAlong (changedAt kept swept sweeps p s) used n x bound m (step d p (page s p))
     unfolding vacuumedLeaf
     sweep-on n q z =
         let k : suc m - 1 ≡ m = omega arith in

@@ -47,7 +47,7 @@ module _ (p : ℕ) (x s : List ℕ) (fits : There p s) (large : 4096 ≤ length 
   unfolding setPage splice
   set-longer = rw (length-append, length-append, length-take, length-drop, length-drop) (omega arith)
 
-  set-next : nextLeaf (page p (setPage p x s)) ≡ nextLeaf x
+  set-next : nextLeaf (page (setPage p x s) p) ≡ nextLeaf x
   unfolding page setPage splice
   set-next =
       let a = p * 4096 in
@@ -62,7 +62,7 @@ module _ (p : ℕ) (x s : List ℕ) (fits : There p s) (large : 4096 ≤ length 
 -- the first m pages are there, and page p names the same next page
 record Kept (m p : ℕ) (s t : List ℕ) : Type 0 where
   pub long : m * 4096 ≤ length t
-  pub next : nextLeaf (page p t) ≡ nextLeaf (page p s)
+  pub next : nextLeaf (page t p) ≡ nextLeaf (page s p)
 
 kept-trans : (m p : ℕ) (s t u : List ℕ) → Kept m p s t → Kept m p t u → Kept m p s u
 kept-trans m p s t u a b = record { long = b .long; next = b .next ∙ a .next }
@@ -82,30 +82,30 @@ module _ (m p : ℕ) (less : p < m) where
       }
 
   kept-linked : (c q : ℕ) (s : List ℕ) → m * 4096 ≤ length s → Kept m p s (linked c q s)
-  kept-linked c q s long = ⊎-elim here (λ h. kept-beyond c (withParent q (page c s)) s long (omega arith)) (le-or-lt (c * 4096 + 4096) (length s))
+  kept-linked c q s long = ⊎-elim here (λ h. kept-beyond c (withParent q (page s c)) s long (omega arith)) (le-or-lt (c * 4096 + 4096) (length s))
     where
       here : There c s → Kept m p s (linked c q s)
       here h =
-          let len : length (withParent q (page c s)) ≡ 4096 = length-putAt 4 (page c s) 2 q ∙ length-page c s h in
-          record { long = rw (length-setPage c (withParent q (page c s)) s h len) long; next = by-page len (eqb p c) refl }
+          let len : length (withParent q (page s c)) ≡ 4096 = length-putAt 4 (page s c) 2 q ∙ length-page c s h in
+          record { long = rw (length-setPage c (withParent q (page s c)) s h len) long; next = by-page len (eqb p c) refl }
         where
-          by-page : length (withParent q (page c s)) ≡ 4096 → (b : Bool) → eqb p c ≡ b → nextLeaf (page p (linked c q s)) ≡ nextLeaf (page p s)
-          by-page len true e = rw (eqb-true p c e, page-setPage c (withParent q (page c s)) s h len) (leAt-putAt-above 4 4 (page c s) 2 q 8 (omega arith))
-          by-page len false e = ap nextLeaf (page-setPage-other c (withParent q (page c s)) s h len p (eqb-false p c e))
+          by-page : length (withParent q (page s c)) ≡ 4096 → (b : Bool) → eqb p c ≡ b → nextLeaf (page (linked c q s) p) ≡ nextLeaf (page s p)
+          by-page len true e = rw (eqb-true p c e, page-setPage c (withParent q (page s c)) s h len) (leAt-putAt-above 4 4 (page s c) 2 q 8 (omega arith))
+          by-page len false e = ap nextLeaf (page-setPage-other c (withParent q (page s c)) s h len p (eqb-false p c e))
 
   kept-adopted : (n i z q : ℕ) (s : List ℕ) → m * 4096 ≤ length s → Kept m p s (adopted n i z q s)
   unfolding adopted
   kept-adopted zero i z q s long = record { long = long; next = refl }
   kept-adopted (suc n) i z q s long =
-      let a = kept-linked (childAt (page z s) i) q s long in
-      kept-trans m p s (linked (childAt (page z s) i) q s) _ a (kept-adopted n (i + 1) z q (linked (childAt (page z s) i) q s) (a .long))
+      let a = kept-linked (childAt (page s z) i) q s long in
+      kept-trans m p s (linked (childAt (page s z) i) q s) _ a (kept-adopted n (i + 1) z q (linked (childAt (page s z) i) q s) (a .long))
 
   kept-relinked : (z : ℕ) (s : List ℕ) → m * 4096 ≤ length s → Kept m p s (relinked z s)
   unfolding relinked
-  kept-relinked z s long = by-kind (eqb (nodeType (page z s)) 0)
+  kept-relinked z s long = by-kind (eqb (nodeType (page s z)) 0)
     where
-      by-kind : (b : Bool) → Kept m p s (pick b (adopted (cellCount (page z s) + 1) 0 z z s) s)
-      by-kind true = kept-adopted (cellCount (page z s) + 1) 0 z z s long
+      by-kind : (b : Bool) → Kept m p s (pick b (adopted (cellCount (page s z) + 1) 0 z z s) s)
+      by-kind true = kept-adopted (cellCount (page s z) + 1) 0 z z s long
       by-kind false = record { long = long; next = refl }
 
   -- a page of the usual length, in another place
@@ -124,9 +124,9 @@ kept-fresh s st long other h = kept-set 7 3 (omega arith) (st .used) (zeros 4096
 
 -- the root page 3, relocated to page 6 from under its top, page 5
 module _ (g : Grown) (long : Long (g .pool)) (root-is : g .state .root ≡ 5) (used-is : g .state .used ≡ 6)
-    (right : childAt (page (g .state .root) (g .pool)) 1 ≡ 4) (next : nextLeaf (page 3 (g .pool)) ≡ 4) where
+    (right : childAt (page (g .pool) (g .state .root)) 1 ≡ 4) (next : nextLeaf (page (g .pool) 3) ≡ 4) where
   abbrev sep : ℕ
-  sep = keyAt (page (g .state .root) (g .pool)) 0
+  sep = keyAt (page (g .pool) (g .state .root)) 0
 
   sep-fits : sep < 4294967296
   unfolding keyAt
@@ -142,7 +142,7 @@ module _ (g : Grown) (long : Long (g .pool)) (root-is : g .state .root ≡ 5) (u
   p₂ = relinked 6 p₁
 
   abbrev p₃ : List ℕ
-  p₃ = setPage 3 (topIn 6 sep 4 (page 3 p₂)) p₂
+  p₃ = setPage 3 (topIn 6 sep 4 (page p₂ 3)) p₂
 
   pin-is : pinOf 3 g ≡ grown (linkedBoth 6 4 3 p₃) (record { root = 3; used = 7 })
   unfolding pinOf nextPage allocated
@@ -154,43 +154,43 @@ module _ (g : Grown) (long : Long (g .pool)) (root-is : g .state .root ≡ 5) (u
   kept₁ : Kept 7 3 p₀ p₁
   kept₁ =
       let l : Long p₀ = kept₀ .long in
-      kept-set 7 3 (omega arith) 6 (withParent 3 (withIsRoot 0 (page 3 p₀))) p₀ l (omega arith)
-      (length-putAt 4 (withIsRoot 0 (page 3 p₀)) 2 3 ∙ length-putAt 1 (page 3 p₀) 1 0 ∙ length-page 3 p₀ (omega arith)) (λ e. omega arith)
+      kept-set 7 3 (omega arith) 6 (withParent 3 (withIsRoot 0 (page p₀ 3))) p₀ l (omega arith)
+      (length-putAt 4 (withIsRoot 0 (page p₀ 3)) 2 3 ∙ length-putAt 1 (page p₀ 3) 1 0 ∙ length-page 3 p₀ (omega arith)) (λ e. omega arith)
 
   kept₂ : Kept 7 3 p₁ p₂
   kept₂ = kept-relinked 7 3 (omega arith) 6 p₁ (kept₁ .long)
 
-  next₂ : nextLeaf (page 3 p₂) ≡ 4
+  next₂ : nextLeaf (page p₂ 3) ≡ 4
   next₂ = kept₂ .next ∙ kept₁ .next ∙ kept₀ .next ∙ next
 
   there : (x : ℕ) → x < 7 → There x p₂
   there x h = let l : Long p₂ = kept₂ .long in omega arith
 
-  len : length (page 3 p₂) ≡ 4096
+  len : length (page p₂ 3) ≡ 4096
   len = length-page 3 p₂ (there 3 (omega arith))
 
   abbrev x : List ℕ
-  x = topIn 6 sep 4 (page 3 p₂)
+  x = topIn 6 sep 4 (page p₂ 3)
 
   x-long : length x ≡ 4096
-  x-long = top-in-long 6 sep 4 (page 3 p₂) len
+  x-long = top-in-long 6 sep 4 (page p₂ 3) len
 
   p₃-long : length p₃ ≡ length p₂
   p₃-long = length-setPage 3 x p₂ (there 3 (omega arith)) x-long
 
-  says : InnerSays x 0 (nextLeaf (page 3 p₂)) 6 ((sep, 4) ∷ [])
-  says = inner-says x (said-top-in 6 sep 4 (page 3 p₂) len (omega arith) sep-fits (omega arith))
+  says : InnerSays x 0 (nextLeaf (page p₂ 3)) 6 ((sep, 4) ∷ [])
+  says = inner-says x (said-top-in 6 sep 4 (page p₂ 3) len (omega arith) sep-fits (omega arith))
 
   -- a link of another page
-  other : (c : ℕ) (s : List ℕ) → There c s → (3 ≡ c → ⊥) → page 3 (linked c 3 s) ≡ page 3 s
-  other c s h ne = page-setPage-other c (withParent 3 (page c s)) s h (length-putAt 4 (page c s) 2 3 ∙ length-page c s h) 3 ne
+  other : (c : ℕ) (s : List ℕ) → There c s → (3 ≡ c → ⊥) → page (linked c 3 s) 3 ≡ page s 3
+  other c s h ne = page-setPage-other c (withParent 3 (page s c)) s h (length-putAt 4 (page s c) 2 3 ∙ length-page c s h) 3 ne
 
-  page-is : page 3 (linkedBoth 6 4 3 p₃) ≡ x
+  page-is : page (linkedBoth 6 4 3 p₃) 3 ≡ x
   page-is =
       let l : Long p₂ = kept₂ .long in
       let six : There 6 p₃ = omega (arith, p₃-long) in
       let l₁ : length (linked 6 3 p₃) ≡ length p₃ =
-      length-setPage 6 (withParent 3 (page 6 p₃)) p₃ six (length-putAt 4 (page 6 p₃) 2 3 ∙ length-page 6 p₃ six) in
+      length-setPage 6 (withParent 3 (page p₃ 6)) p₃ six (length-putAt 4 (page p₃ 6) 2 3 ∙ length-page 6 p₃ six) in
       other 4 (linked 6 3 p₃) (omega (arith, l₁, p₃-long)) (λ e. omega arith)
       ∙ other 6 p₃ six (λ e. omega arith)
       ∙ page-setPage 3 x p₂ (there 3 (omega arith)) x-long
@@ -200,7 +200,7 @@ module _ (g : Grown) (long : Long (g .pool)) (root-is : g .state .root ≡ 5) (u
       rw pin-is
       (record {
         state = refl;
-        children = rw page-is (says-children x 0 (nextLeaf (page 3 p₂)) 6 ((sep, 4) ∷ []) says);
+        children = rw page-is (says-children x 0 (nextLeaf (page p₂ 3)) 6 ((sep, 4) ∷ []) says);
         next = rw page-is (says .next ∙ next₂);
       })
 
@@ -229,7 +229,7 @@ module _ (s : List ℕ) (n : ℕ) (cut : Cut) (v : List ℕ) (long : Long s) whe
   a₀ = withFresh s (record { root = 3; used = 4 })
 
   abbrev rightSide : List ℕ
-  rightSide = rightLeaf (nextLeaf (page 3 a₀)) n cut v (page 4 a₀)
+  rightSide = rightLeaf (nextLeaf (page a₀ 3)) n cut v (page a₀ 4)
 
   abbrev a₁ : List ℕ
   a₁ = setPage 4 rightSide a₀
@@ -241,18 +241,18 @@ module _ (s : List ℕ) (n : ℕ) (cut : Cut) (v : List ℕ) (long : Long s) whe
   a₀-long = kept-fresh s (record { root = 3; used = 4 }) long (λ e. omega arith) (omega arith) .long
 
   a₁-long : Long a₁
-  a₁-long = omega (arith, a₀-long, set-longer 4 rightSide a₀ (omega (arith, a₀-long)) (right-large (nextLeaf (page 3 a₀)) n cut v (page 4 a₀)))
+  a₁-long = omega (arith, a₀-long, set-longer 4 rightSide a₀ (omega (arith, a₀-long)) (right-large (nextLeaf (page a₀ 3)) n cut v (page a₀ 4)))
 
   a₂-long : Long a₂
   unfolding divided
   a₂-long = omega (arith, a₁-long, set-longer 3 (leftLeaf 4 cut v) a₁ (omega (arith, a₁-long)) (left-large 4 cut v))
 
-  a₂-next : nextLeaf (page 3 a₂) ≡ 4
+  a₂-next : nextLeaf (page a₂ 3) ≡ 4
   unfolding divided
   a₂-next = set-next 3 (leftLeaf 4 cut v) a₁ (omega (arith, a₁-long)) (left-large 4 cut v) ∙ left-next 4 cut v (omega arith)
 
   abbrev key : ℕ
-  key = rankAt (page 4 a₂) 12
+  key = rankAt (page a₂ 4) 12
 
   abbrev g₁ : Grown
   g₁ = grown a₂ (record { root = 3; used = 5 })
@@ -267,7 +267,7 @@ module _ (s : List ℕ) (n : ℕ) (cut : Cut) (v : List ℕ) (long : Long s) whe
   b₀ = withFresh a₂ (record { root = 3; used = 5 })
 
   abbrev b₁ : List ℕ
-  b₁ = setPage 5 (topPage 3 key 4 (page 5 b₀)) b₀
+  b₁ = setPage 5 (topPage 3 key 4 (page b₀ 5)) b₀
 
   g₂-kept : Kept 7 3 a₂ (g₂ .pool)
   unfolding topOver nextPage
@@ -275,7 +275,7 @@ module _ (s : List ℕ) (n : ℕ) (cut : Cut) (v : List ℕ) (long : Long s) whe
       let k₀ : Kept 7 3 a₂ b₀ = kept-fresh a₂ (record { root = 3; used = 5 }) a₂-long (λ e. omega arith) (omega arith) in
       let l₀ : Long b₀ = k₀ .long in
       let k₁ : Kept 7 3 b₀ b₁ =
-      kept-set 7 3 (omega arith) 5 (topPage 3 key 4 (page 5 b₀)) b₀ l₀ (omega arith) (top-long 3 key 4 (page 5 b₀) (length-page 5 b₀ (omega arith))) (λ e. omega arith) in
+      kept-set 7 3 (omega arith) 5 (topPage 3 key 4 (page b₀ 5)) b₀ l₀ (omega arith) (top-long 3 key 4 (page b₀ 5) (length-page 5 b₀ (omega arith))) (λ e. omega arith) in
       let k₂ : Kept 7 3 b₁ (linked 3 5 b₁) = kept-linked 7 3 (omega arith) 3 5 b₁ (k₁ .long) in
       kept-trans 7 3 a₂ b₀ _ k₀ (kept-trans 7 3 b₀ b₁ _ k₁ (kept-trans 7 3 b₁ (linked 3 5 b₁) _ k₂ (kept-linked 7 3 (omega arith) 4 5 (linked 3 5 b₁) (k₂ .long))))
 

@@ -116,52 +116,52 @@ module _ (x n : ℕ) where
   abbrev Off : ℕ → Type 0
   Off q = (q * 4096 + 4096 ≤ n) × (x ≡ q → ⊥)
 
-  linked-off : (c q : ℕ) (s : List ℕ) → length s ≡ n → Off c → page x (linked c q s) ≡ page x s
+  linked-off : (c q : ℕ) (s : List ℕ) → length s ≡ n → Off c → page (linked c q s) x ≡ page s x
   linked-off c q s e o =
       let h : There c s = rw e (o .0) in
-      page-setPage-other c (withParent q (page c s)) s h (length-putAt 4 (page c s) 2 q ∙ length-page c s h) x (o .1)
+      page-setPage-other c (withParent q (page s c)) s h (length-putAt 4 (page s c) 2 q ∙ length-page c s h) x (o .1)
 
-  both-off : (old new q : ℕ) (s : List ℕ) → length s ≡ n → Off old → Off new → page x (linkedBoth old new q s) ≡ page x s
+  both-off : (old new q : ℕ) (s : List ℕ) → length s ≡ n → Off old → Off new → page (linkedBoth old new q s) x ≡ page s x
   both-off old new q s e o m =
       linked-off new q (linked old q s) (like-linked old q s (rw e (o .0)) .long ∙ e) m ∙ linked-off old q s e o
 
-  adopted-off : (m i p q : ℕ) (s : List ℕ) → length s ≡ n → All Off (childrenFrom i m (page p s)) → Like (adopted m i p q s) s × (page x (adopted m i p q s) ≡ page x s)
+  adopted-off : (m i p q : ℕ) (s : List ℕ) → length s ≡ n → All Off (childrenFrom (page s p) i m) → Like (adopted m i p q s) s × (page (adopted m i p q s) x ≡ page s x)
   unfolding adopted childrenFrom
   adopted-off zero i p q s e h = (like-refl, refl)
   adopted-off (suc m) i p q s e h =
-      let c = childAt (page p s) i in
+      let c = childAt (page s p) i in
       let t = linked c q s in
       let like = like-linked c q s (rw e (h .0 .0)) in
-      let same : childrenFrom (i + 1) m (page p t) ≡ childrenFrom (i + 1) m (page p s) =
-      rw (children-read m (i + 1) (page p t), children-read m (i + 1) (page p s))
-      (read-ext (childAt (page p t)) (childAt (page p s)) m (i + 1) (i + 1) (λ k l. like .each p .child (i + 1 + k))) in
+      let same : childrenFrom (page t p) (i + 1) m ≡ childrenFrom (page s p) (i + 1) m =
+      rw (children-read m (i + 1) (page t p), children-read m (i + 1) (page s p))
+      (read-ext (childAt (page t p)) (childAt (page s p)) m (i + 1) (i + 1) (λ k l. like .each p .child (i + 1 + k))) in
       let ih = adopted-off m (i + 1) p q t (like .long ∙ e) (subst (All Off) (sym same) (h .1)) in
       (like-trans (ih .0) like, ih .1 ∙ linked-off c q s e (h .0))
 
   -- an internal page r has no child x, and its children are there
   abbrev Clear : ℕ → List ℕ → Type 0
-  Clear r s = nodeType (page r s) ≡ 0 → All Off (childrenOf (page r s))
+  Clear r s = nodeType (page s r) ≡ 0 → All Off (childrenOf (page s r))
 
-  clear-alike : (r y : ℕ) (s t : List ℕ) → Alike (page y t) (page r s) → Clear r s → Clear y t
+  clear-alike : (r y : ℕ) (s t : List ℕ) → Alike (page t y) (page s r) → Clear r s → Clear y t
   clear-alike r y s t a c k = rw (alike-children a) (c (sym (a .kind) ∙ k))
 
-  relinked-off : (z : ℕ) (s : List ℕ) → length s ≡ n → Clear z s → (length (relinked z s) ≡ n) × (page x (relinked z s) ≡ page x s)
-  relinked-off z s e c = by-kind (eqb (nodeType (page z s)) 0) refl
+  relinked-off : (z : ℕ) (s : List ℕ) → length s ≡ n → Clear z s → (length (relinked z s) ≡ n) × (page (relinked z s) x ≡ page s x)
+  relinked-off z s e c = by-kind (eqb (nodeType (page s z)) 0) refl
     where
-      by-kind : (b : Bool) → eqb (nodeType (page z s)) 0 ≡ b → (length (relinked z s) ≡ n) × (page x (relinked z s) ≡ page x s)
+      by-kind : (b : Bool) → eqb (nodeType (page s z)) 0 ≡ b → (length (relinked z s) ≡ n) × (page (relinked z s) x ≡ page s x)
       by-kind true k =
-          let q = eqb-true (nodeType (page z s)) 0 k in
-          let a = adopted-off (cellCount (page z s) + 1) 0 z z s e (c q) in
+          let q = eqb-true (nodeType (page s z)) 0 k in
+          let a = adopted-off (cellCount (page s z) + 1) 0 z z s e (c q) in
           rw (← (relink-inner z s refl refl refl q refl)) (a .0 .long ∙ e, a .1)
-      by-kind false k = rw (← (relink-leaf z s refl refl refl (eqb-false (nodeType (page z s)) 0 k))) (e, refl)
+      by-kind false k = rw (← (relink-leaf z s refl refl refl (eqb-false (nodeType (page s z)) 0 k))) (e, refl)
 
   -- ---- page p divides
 
   module _ (p i sep new : ℕ) (g : Grown) (long : length (g .pool) ≡ n) (B : AreBytes (g .pool)) (free : Free g) (less : p < g .state .used) (in₀ : i ≤ 510)
-      (full : cellCount (page p (g .pool)) ≡ 510) (sep-fits : sep < 4294967296) (new-fits : new < 4294967296)
-      (kids-off : All Off (childrenOf (page p (g .pool)))) (new-off : Off new) where
+      (full : cellCount (page (g .pool) p) ≡ 510) (sep-fits : sep < 4294967296) (new-fits : new < 4294967296)
+      (kids-off : All Off (childrenOf (page (g .pool) p))) (new-off : Off new) where
     abbrev here : List ℕ
-    here = page p (g .pool)
+    here = page (g .pool) p
 
     abbrev s₀ : List ℕ
     s₀ = withFresh (g .pool) (g .state)
@@ -210,21 +210,21 @@ module _ (x n : ℕ) where
     all-off : All Off (insertAt (i + 1) new (childrenOf here))
     all-off = all-insert Off (i + 1) new (childrenOf here) kids-off new-off
 
-    right-off : All Off (childrenFrom 0 256 halfR)
+    right-off : All Off (childrenFrom halfR 0 256)
     right-off =
         let h = halves-divide here i sep new (bytes-page p (g .pool) B, here-long) sep-fits new-fits in₀ full in
         let c : cellCount halfR + 1 ≡ 256 = omega (arith, right-count i sep new here (zeros 4096) here-long full in₀ length-zeros) in
         rw c at (subst (All Off) (sym (h .4)) (all-cut Off 256 (insertAt (i + 1) new (childrenOf here)) all-off .1))
 
-    right-at : page (g .state .used) s₂ ≡ halfR
+    right-at : page s₂ (g .state .used) ≡ halfR
     right-at = page-setPage-other p halfL s₁ p-there l-long (g .state .used) (λ e. omega arith) ∙ page-setPage (g .state .used) halfR s₀ next-there r-long
 
-    adopts : Like (adopted 256 0 (g .state .used) (g .state .used) s₂) s₂ × (page x (adopted 256 0 (g .state .used) (g .state .used) s₂) ≡ page x s₂)
+    adopts : Like (adopted 256 0 (g .state .used) (g .state .used) s₂) s₂ × (page (adopted 256 0 (g .state .used) (g .state .used) s₂) x ≡ page s₂ x)
     adopts = adopted-off 256 0 (g .state .used) (g .state .used) s₂ s₂-long (rw right-at right-off)
 
-    halved-off : x < g .state .used → (x ≡ p → ⊥) → page x (halved p i sep new g .pool) ≡ page x (g .pool)
+    halved-off : x < g .state .used → (x ≡ p → ⊥) → page (halved p i sep new g .pool) x ≡ page (g .pool) x
     halved-off low ne =
-        ap (page x) halved-is
+        ap (λ (t : List ℕ). page t x) halved-is
         ∙ adopts .1
         ∙ page-setPage-other p halfL s₁ p-there l-long x ne
         ∙ page-setPage-other (g .state .used) halfR s₀ next-there r-long x (λ e. omega arith)
@@ -233,53 +233,53 @@ module _ (x n : ℕ) where
     halved-clear : Clear p (halved p i sep new g .pool)
     halved-clear k =
         let h = halves-divide here i sep new (bytes-page p (g .pool) B, here-long) sep-fits new-fits in₀ full in
-        let same : childrenOf (page p (halved p i sep new g .pool)) ≡ childrenOf halfL =
-        ap (λ (s : List ℕ). childrenOf (page p s)) halved-is ∙ alike-children (adopts .0 .each p) ∙ ap childrenOf (page-setPage p halfL s₁ p-there l-long) in
+        let same : childrenOf (page (halved p i sep new g .pool) p) ≡ childrenOf halfL =
+        ap (λ (s : List ℕ). childrenOf (page s p)) halved-is ∙ alike-children (adopts .0 .each p) ∙ ap childrenOf (page-setPage p halfL s₁ p-there l-long) in
         subst (All Off) (sym (same ∙ h .3)) (all-cut Off 256 (insertAt (i + 1) new (childrenOf here)) all-off .0)
 
   -- ---- the root grows
 
   top-off : (old sep new : ℕ) (g : Grown) → length (g .pool) ≡ n → Free g → Off old → Off new → x < g .state .used
-      → page x (topOver old sep new g .pool) ≡ page x (g .pool)
+      → page (topOver old sep new g .pool) x ≡ page (g .pool) x
   unfolding topOver nextPage
   top-off old sep new g long free o m low =
       let t = g .state .used in
       let s = withFresh (g .pool) (g .state) in
-      let y = topPage old sep new (page t s) in
+      let y = topPage old sep new (page s t) in
       let ls : length s ≡ length (g .pool) = fresh-long (g .pool) (g .state) (free .1) in
       let h : There t s = rw ls (free .1) in
-      let ly : length y ≡ 4096 = top-long old sep new (page t s) (length-page t s h) in
+      let ly : length y ≡ 4096 = top-long old sep new (page s t) (length-page t s h) in
       both-off old new t (setPage t y s) (length-setPage t y s h ly ∙ ls ∙ long) o m
       ∙ page-setPage-other t y s h ly x (λ e. omega arith)
       ∙ fresh-other (g .pool) (g .state) (free .1) x (λ e. omega arith)
 
   -- ---- a root keeps its number
 
-  pin-off : (fixed : ℕ) (g : Grown) → length (g .pool) ≡ n → Free g → fixed < g .state .used → Clear fixed (g .pool) → Off (childAt (page (g .state .root) (g .pool)) 1)
-      → x < g .state .used → (x ≡ fixed → ⊥) → page x (pinOf fixed g .pool) ≡ page x (g .pool)
+  pin-off : (fixed : ℕ) (g : Grown) → length (g .pool) ≡ n → Free g → fixed < g .state .used → Clear fixed (g .pool) → Off (childAt (page (g .pool) (g .state .root)) 1)
+      → x < g .state .used → (x ≡ fixed → ⊥) → page (pinOf fixed g .pool) x ≡ page (g .pool) x
   unfolding pinOf nextPage
   pin-off fixed g long free less clear m low ne =
       let z = g .state .used in
       let s = withFresh (g .pool) (g .state) in
-      let y = withParent fixed (withIsRoot 0 (page fixed s)) in
+      let y = withParent fixed (withIsRoot 0 (page s fixed)) in
       let ls : length s ≡ n = fresh-long (g .pool) (g .state) (free .1) ∙ long in
       let h : There z s = omega (arith, ls, long, free .1) in
       let ly : length y ≡ 4096 =
-      length-putAt 4 (withIsRoot 0 (page fixed s)) 2 fixed ∙ length-putAt 1 (page fixed s) 1 0 ∙ length-page fixed s (omega arith) in
+      length-putAt 4 (withIsRoot 0 (page s fixed)) 2 fixed ∙ length-putAt 1 (page s fixed) 1 0 ∙ length-page fixed s (omega arith) in
       let s₁ = movedTo fixed z s in
       let l₁ : length s₁ ≡ n = length-setPage z y s h ly ∙ ls in
-      let image : Alike (page z s₁) (page fixed (g .pool)) =
+      let image : Alike (page s₁ z) (page (g .pool) fixed) =
       alike-trans (alike-eq (page-setPage z y s h ly))
-      (alike-trans (alike-parent fixed (withIsRoot 0 (page fixed s)))
-      (alike-trans (alike-root 0 (page fixed s)) (alike-eq (fresh-other (g .pool) (g .state) (free .1) fixed (λ e. omega arith))))) in
+      (alike-trans (alike-parent fixed (withIsRoot 0 (page s fixed)))
+      (alike-trans (alike-root 0 (page s fixed)) (alike-eq (fresh-other (g .pool) (g .state) (free .1) fixed (λ e. omega arith))))) in
       let links = relinked-off z s₁ l₁ (clear-alike fixed z (g .pool) s₁ image clear) in
       let s₂ = relinked z s₁ in
-      let sep = keyAt (page (g .state .root) (g .pool)) 0 in
-      let new = childAt (page (g .state .root) (g .pool)) 1 in
-      let w = topIn z sep new (page fixed s₂) in
+      let sep = keyAt (page (g .pool) (g .state .root)) 0 in
+      let new = childAt (page (g .pool) (g .state .root)) 1 in
+      let w = topIn z sep new (page s₂ fixed) in
       let l₂ : length s₂ ≡ n = links .0 in
       let f : There fixed s₂ = omega (arith, l₂, ls, h) in
-      let lw : length w ≡ 4096 = top-in-long z sep new (page fixed s₂) (length-page fixed s₂ f) in
+      let lw : length w ≡ 4096 = top-in-long z sep new (page s₂ fixed) (length-page fixed s₂ f) in
       both-off z new fixed (setPage fixed w s₂) (length-setPage fixed w s₂ f lw ∙ l₂) (omega (arith, ls, h), λ e. omega arith) m
       ∙ page-setPage-other fixed w s₂ f lw x ne
       ∙ links .1
@@ -290,11 +290,11 @@ module _ (x n : ℕ) where
 
   -- the root of h is a new top, and the old root r can be relocated
   abbrev Pins : ℕ → Grown → Type 0
-  Pins r h = Clear r (h .pool) × Off (childAt (page (h .state .root) (h .pool)) 1)
+  Pins r h = Clear r (h .pool) × Off (childAt (page (h .pool) (h .state .root)) 1)
 
   -- from g, where the page l has divided, to h with the tree y
   record Stays (l r : ℕ) (g h : Grown) (y : Raised) : Type 0 where
-    same : page x (h .pool) ≡ page x (g .pool)
+    same : page (h .pool) x ≡ page (g .pool) x
     long : length (h .pool) ≡ n
     used-is : h .state .used ≡ y .used
     grows : Clear l (g .pool) → (h .state .root ≡ g .state .root) ⊎ ((y .grew ≡ 1) × Pins r h)
@@ -341,10 +341,10 @@ module _ (n : ℕ) (c : Ctx) (g : Grown) (w : Pages) (s s′ : Shape) (l m sep n
   u = g .state .used
 
   abbrev pg : List ℕ
-  pg = page p (g .pool)
+  pg = page (g .pool) p
 
   abbrev spot : ℕ
-  spot = placeIn l pg
+  spot = placeIn pg l
 
   o : OnPage c w s s′ l (m, new) u p
   o = entry-page f
@@ -447,18 +447,18 @@ module _ (n : ℕ) (c : Ctx) (g : Grown) (w : Pages) (s s′ : Shape) (l m sep n
     g₂ = halved p spot sep new g₁
 
     abbrev key : ℕ
-    key = middleKey spot sep new (page p t₁)
+    key = middleKey spot sep new (page t₁ p)
 
     t₁-long : length t₁ ≡ n
     t₁-long = like-linked new p (g .pool) n-here .long ∙ long
 
     t₁-bytes : AreBytes t₁
-    t₁-bytes = bytes-set-page new _ (g .pool) (bytes-field 4 (page new (g .pool)) 2 p (bytes-page new (g .pool) B)) B
+    t₁-bytes = bytes-set-page new _ (g .pool) (bytes-field 4 (page (g .pool) new) 2 p (bytes-page new (g .pool) B)) B
 
     free₁ : Free g₁
     free₁ = (free .0, omega (arith, t₁-long, long, free .1))
 
-    pg-same : page p t₁ ≡ pg
+    pg-same : page t₁ p ≡ pg
     pg-same = linked-off p n new p (g .pool) long (there new n-low, λ e. o .new-page (sym e))
 
     is₁ : view t₁ p ≡ innerPage (parC 0 c) (above .0) (head s) (rest s)
@@ -470,13 +470,13 @@ module _ (n : ℕ) (c : Ctx) (g : Grown) (w : Pages) (s s′ : Shape) (l m sep n
     over : 510 < length (rest s′)
     over = omega (arith, full, o .count)
 
-    place₁ : spot ≡ placeIn l (page p t₁)
+    place₁ : spot ≡ placeIn (page t₁ p) l
     place₁ = rw pg-same
 
     in₀ : spot ≤ 510
     in₀ = omega (arith, place-in spot l sep new pg (parC 0 c) (above .0) (head s) (rest s) whole says refl (o .child) low n-fits, count, exact)
 
-    full₁ : cellCount (page p t₁) ≡ 510
+    full₁ : cellCount (page t₁ p) ≡ 510
     full₁ = rw pg-same (sym count ∙ exact)
 
     going : All (λ q. There q t₁) (kids (getD (insAfter l (sep, new) (head s) (rest s)) 255 (0, 0) .1) (drop 256 (insAfter l (sep, new) (head s) (rest s))))
@@ -495,10 +495,10 @@ module _ (n : ℕ) (c : Ctx) (g : Grown) (w : Pages) (s s′ : Shape) (l m sep n
     used₂ = halved-used p spot sep new g₁ ∙ add-one u
 
     module _ (x : ℕ) (h : Beside x) where
-      kids-off₁ : All (Off x n) (childrenOf (page p t₁))
+      kids-off₁ : All (Off x n) (childrenOf (page t₁ p))
       kids-off₁ = rw (pg-same, kids-are) (kids-off x h)
 
-      same₂ : page x (g₂ .pool) ≡ page x (g .pool)
+      same₂ : page (g₂ .pool) x ≡ page (g .pool) x
       same₂ =
           halved-off x n p spot sep new g₁ t₁-long t₁-bytes free₁ p-low in₀ full₁ low n-fits kids-off₁ (new-off x h) (h .0) (h .1)
           ∙ linked-off x n new p (g .pool) long (new-off x h)
@@ -534,7 +534,7 @@ module _ (n : ℕ) (c : Ctx) (g : Grown) (w : Pages) (s s′ : Shape) (l m sep n
         let x-low : x < u = h .0 in
         let r : Stays x n p (head (plug c (node p s))) g₂ (enterOf (path c) p key u g₂) (up c over-it (suc u)) =
         subst (λ (k : ℕ). Stays x n p (head (plug c (node p s))) g₂ (enterOf (path c) p key u g₂) (up c over-it k)) used₂
-        (again g₂ (dv w p u (parC 0 c) (above .0) (cut 255 s′ .left) (cut 255 s′ .right)) (cut 255 s′ .mid) key u long₂ (middle-less spot sep new (page p t₁))
+        (again g₂ (dv w p u (parC 0 c) (above .0) (cut 255 s′ .left) (cut 255 s′ .right)) (cut 255 s′ .mid) key u long₂ (middle-less spot sep new (page t₁ p))
         (rw used₂ (entry-half (above .0) f over)) above₂ bytes₂ (rw used₂ room₂) (rw used₂ few₂) (rw used₂ (omega arith)) (λ e. omega arith) out) in
         rw (← enters, up-half p c s′ u over)
         (record {
@@ -593,7 +593,7 @@ enter-stays x n (under p c) s s′ l g w m sep new long low f above B room few h
 
 module _ (s : List ℕ) (root used : ℕ) (c : Ctx) (p : ℕ) (rs left : List Row) (z : Row) (right : List Row) (k : ℕ) (v : List ℕ)
     (f : WellFormed (view s) root used (plug c (leaf p rs))) (B : AreBytes s) (Bv : AreBytes v)
-    (few-left : length (rowsBytes left) ≤ 4084) (few-right : length (rowsBytes (z ∷ right)) ≤ 4084) (v-is : v ≡ part 0 12 (page p s) ++ rowsBytes (left ++ (z ∷ right)))
+    (few-left : length (rowsBytes left) ≤ 4084) (few-right : length (rowsBytes (z ∷ right)) ≤ 4084) (v-is : v ≡ part 0 12 (page s p) ++ rowsBytes (left ++ (z ∷ right)))
     (room : usedAfter root (dividedTree c p used left z right) * 4096 ≤ length s) (few : usedAfter root (dividedTree c p used left z right) ≤ 65536) where
   abbrev st : State
   st = record { root = root; used = used }
@@ -630,20 +630,20 @@ module _ (s : List ℕ) (root used : ℕ) (c : Ctx) (p : ℕ) (rs left : List Ro
   abbrev pool₁ : List ℕ
   pool₁ = divided p used k (cutAfter left) v (withFresh s st)
 
-  leaf-long : length (page p s) ≡ 4096
+  leaf-long : length (page s p) ≡ 4096
   leaf-long = length-page p s (omega (arith, used-there, after-low .0))
 
   v-long : length v ≡ 12 + (length (rowsBytes left) + length (rowsBytes (z ∷ right)))
   v-long =
       ap (λ (l : List ℕ). length l) v-is
-      ∙ length-headed (page p s) (rowsBytes (left ++ (z ∷ right))) leaf-long
+      ∙ length-headed (page s p) (rowsBytes (left ++ (z ∷ right))) leaf-long
       ∙ rw (rows-append left (z ∷ right), length-append (rowsBytes left) (rowsBytes (z ∷ right)))
 
   leaf-divides : LeafDivided s st p (grown (divided p (nextPage s st) k (cutAfter left) v (withFresh s st)) (allocated s st .state))
   leaf-divides =
-      let h : length (part 0 12 (page p s)) ≡ 12 = length-part 0 12 (page p s) (omega (arith, leaf-long)) in
-      divided-leaf s st p k (cutAfter left) v (after-low .0) used-there (leaf-says (page p s) (sym (view-page p s) ∙ held .1) .type)
-      (rw v-is (part-left 0 12 (part 0 12 (page p s)) (rowsBytes (left ++ (z ∷ right))) (omega (arith, h)) ∙ part-whole 12 (part 0 12 (page p s)) h))
+      let h : length (part 0 12 (page s p)) ≡ 12 = length-part 0 12 (page s p) (omega (arith, leaf-long)) in
+      divided-leaf s st p k (cutAfter left) v (after-low .0) used-there (leaf-says (page s p) (sym (view-page p s) ∙ held .1) .type)
+      (rw v-is (part-left 0 12 (part 0 12 (page s p)) (rowsBytes (left ++ (z ∷ right))) (omega (arith, h)) ∙ part-whole 12 (part 0 12 (page s p)) h))
       few-left
       (omega (arith, v-long))
       (omega (arith, v-long))
@@ -652,11 +652,11 @@ module _ (s : List ℕ) (root used : ℕ) (c : Ctx) (p : ℕ) (rs left : List Ro
   unfolding nextPage
   long₁ = leaf-divides .long
 
-  same₁ : (q : ℕ) → q < used → (q ≡ p → ⊥) → page q pool₁ ≡ page q s
+  same₁ : (q : ℕ) → q < used → (q ≡ p → ⊥) → page pool₁ q ≡ page s q
   unfolding nextPage
   same₁ = leaf-divides .same
 
-  kind₁ : nodeType (page p pool₁) ≡ 1
+  kind₁ : nodeType (page pool₁ p) ≡ 1
   unfolding nextPage
   kind₁ = leaf-divides .leaf
 
@@ -680,7 +680,7 @@ module _ (s : List ℕ) (root used : ℕ) (c : Ctx) (p : ℕ) (rs left : List Ro
   h₁ = grown pool₁ (record { root = root; used = suc used })
 
   abbrev h₂ : Grown
-  h₂ = enterOf (path c) p (rankAt (page used pool₁) 12) used h₁
+  h₂ = enterOf (path c) p (rankAt (page pool₁ used) 12) used h₁
 
   up-is : (plan : Planned) → plan .path ≡ pathOf (p ∷ path c) → plan .cut ≡ cutAfter left → dividedUp plan p k v (grown s st) ≡ keptRoot root h₂
   unfolding dividedUp settled nextPage allocated
@@ -690,7 +690,7 @@ module _ (s : List ℕ) (root used : ℕ) (c : Ctx) (p : ℕ) (rs left : List Ro
     outs : Out x (preG c ++ (p ∷ postG c))
     outs = rw (plug-pages c (leaf p rs)) at out
 
-    off-leaf : page x pool₁ ≡ page x s
+    off-leaf : page pool₁ x ≡ page s x
     off-leaf = same₁ x low (all-right (λ q. x ≡ q → ⊥) (preG c) (p ∷ postG c) outs .0)
 
     off-root : x ≡ root → ⊥
@@ -698,14 +698,14 @@ module _ (s : List ℕ) (root used : ℕ) (c : Ctx) (p : ℕ) (rs left : List Ro
 
     entered-off : Stays x (length s) p (head (plug c (leaf p rs))) h₁ h₂ tree
     entered-off =
-        enter-stays x (length s) c (leaf p rs) two p h₁ (leafPool (view s) c p used left (z ∷ right)) (z .key) (rankAt (page used pool₁) 12) used long₁ (flip-less _)
+        enter-stays x (length s) c (leaf p rs) two p h₁ (leafPool (view s) c p used left (z ∷ right)) (z .key) (rankAt (page pool₁ used) 12) used long₁ (flip-less _)
         (entry-leaf (view s) root used c p rs left (z ∷ right) (z .key) f) above₁ bytes₁ (omega (arith, room)) (omega (arith, few)) (omega arith) (λ e. omega arith) out
 
-    all-off-root : page x (keptRoot root h₂ .pool) ≡ page x s
+    all-off-root : page (keptRoot root h₂ .pool) x ≡ page s x
     all-off-root = by-root (eqb root 0) refl (eqb (h₂ .state .root) root) refl
       where
         pinned : eqb root 0 ≡ false → (h₂ .state .root ≡ root → ⊥) → (h₂ .state .root ≡ root) ⊎ ((tree .grew ≡ 1) × Pins x (length s) (head (plug c (leaf p rs))) h₂)
-            → page x (pinOf root h₂ .pool) ≡ page x (h₂ .pool)
+            → page (pinOf root h₂ .pool) x ≡ page (h₂ .pool) x
         pinned e ne (inl i) = absurd (ne i)
         pinned e ne (inr i) =
             let last : usedAfter root tree ≡ suc (h₂ .state .used) = rw (e, i .0) (add-one (tree .used) ∙ ap suc (sym (entered-off .used-is))) in
@@ -716,7 +716,7 @@ module _ (s : List ℕ) (root used : ℕ) (c : Ctx) (p : ℕ) (rs left : List Ro
             pin-off x (length s) root h₂ total (omega (arith, last, few), omega (arith, last, room)) (omega (arith, more))
             (subst (λ (q : ℕ). Clear x (length s) q (h₂ .pool)) root-is (i .1 .0)) (i .1 .1) (omega (arith, more)) off-root
 
-        by-root : (a : Bool) → eqb root 0 ≡ a → (b : Bool) → eqb (h₂ .state .root) root ≡ b → page x (keptRoot root h₂ .pool) ≡ page x s
+        by-root : (a : Bool) → eqb root 0 ≡ a → (b : Bool) → eqb (h₂ .state .root) root ≡ b → page (keptRoot root h₂ .pool) x ≡ page s x
         by-root true e b eq = rw (← (keep-zero root (h₂ .pool) (h₂ .state) (eqb-true root 0 e))) (entered-off .same ∙ off-leaf)
         by-root false e true eq =
             rw (← (keep-same root (h₂ .pool) (h₂ .state) (eqb-false root 0 e) (eqb-true (h₂ .state .root) root eq))) (entered-off .same ∙ off-leaf)
@@ -728,10 +728,10 @@ module _ (s : List ℕ) (root used : ℕ) (c : Ctx) (p : ℕ) (rs left : List Ro
 -- the leaf p of the tree t divides as planned: v is what it would hold
 pub divided-up-elsewhere : (s : List ℕ) (root used : ℕ) (t : Shape) (c : Ctx) (p : ℕ) (rs left : List Row) (z : Row) (right : List Row)
     (plan : Planned) (n : ℕ) (v : List ℕ) → t ≡ plug c (leaf p rs) → WellFormed (view s) root used t → AreBytes s → AreBytes v
-    → length (rowsBytes left) ≤ 4084 → length (rowsBytes (z ∷ right)) ≤ 4084 → v ≡ part 0 12 (page p s) ++ rowsBytes (left ++ (z ∷ right))
+    → length (rowsBytes left) ≤ 4084 → length (rowsBytes (z ∷ right)) ≤ 4084 → v ≡ part 0 12 (page s p) ++ rowsBytes (left ++ (z ∷ right))
     → plan .path ≡ pathOf (p ∷ path c) → plan .cut ≡ record { cells = length left; bytes = length (rowsBytes left) }
     → usedAfter root (dividedTree c p used left z right) * 4096 ≤ length s → usedAfter root (dividedTree c p used left z right) ≤ 65536
-    → (x : ℕ) → x < used → mem x (pagesIn t) ≡ false → page x (dividedUp plan p n v (grown s (record { root = root; used = used })) .pool) ≡ page x s
+    → (x : ℕ) → x < used → mem x (pagesIn t) ≡ false → page (dividedUp plan p n v (grown s (record { root = root; used = used })) .pool) x ≡ page s x
 divided-up-elsewhere s root used t c p rs left z right plan n v t-is f B Bv few-left few-right v-is path-is cut-is room few x low out =
     let f₁ : WellFormed (view s) root used (plug c (leaf p rs)) = subst (λ (y : Shape). WellFormed (view s) root used y) t-is f in
     rw (up-is s root used c p rs left z right n v f₁ B Bv few-left few-right v-is room few plan path-is cut-is)

@@ -105,16 +105,16 @@ enter-over g s s′ l sep new low f B room few =
 -- ---- a page above
 
 module _ (ps : List ℕ) (p old sep new : ℕ) (g : Grown) where
-  enter-joined : cellCount (page p (g .pool)) < 510 → enterOf (p ∷ ps) old sep new g ≡ joinedTo p old sep new g
+  enter-joined : cellCount (page (g .pool) p) < 510 → enterOf (p ∷ ps) old sep new g ≡ joinedTo p old sep new g
   unfolding enterOf
-  enter-joined h = rw (lt-ltb (cellCount (page p (g .pool))) 510 h)
+  enter-joined h = rw (lt-ltb (cellCount (page (g .pool) p)) 510 h)
 
-  enter-halved : 510 ≤ cellCount (page p (g .pool))
+  enter-halved : 510 ≤ cellCount (page (g .pool) p)
       → enterOf (p ∷ ps) old sep new g
-      ≡ enterOf ps p (middleKey (placeIn old (page p (g .pool))) sep new (page p (linked new p (g .pool)))) (g .state .used)
-      (halved p (placeIn old (page p (g .pool))) sep new (grown (linked new p (g .pool)) (g .state)))
+      ≡ enterOf ps p (middleKey (placeIn (page (g .pool) p) old) sep new (page (linked new p (g .pool)) p)) (g .state .used)
+      (halved p (placeIn (page (g .pool) p) old) sep new (grown (linked new p (g .pool)) (g .state)))
   unfolding enterOf nextPage
-  enter-halved h = rw (le-ltb (cellCount (page p (g .pool))) 510 h)
+  enter-halved h = rw (le-ltb (cellCount (page (g .pool) p)) 510 h)
 
 joined-state : (p old sep new : ℕ) (g : Grown) → joinedTo p old sep new g .state ≡ g .state
 unfolding joinedTo
@@ -162,11 +162,11 @@ module _ (c : Ctx) (g : Grown) (s s′ : Shape) (l sep new p : ℕ) (low : sep <
   at-old : w₁ l ≡ w l
   at-old = withPage-other w new l (setPar p (w new)) (b .apart)
 
-  says : InnerSays (page p (g .pool)) (parC 0 c) (o .next) (head s) (rest s)
-  says = inner-says (page p (g .pool)) (sym (view-page p (g .pool)) ∙ is)
+  says : InnerSays (page (g .pool) p) (parC 0 c) (o .next) (head s) (rest s)
+  says = inner-says (page (g .pool) p) (sym (view-page p (g .pool)) ∙ is)
 
-  count : length (rest s) ≡ cellCount (page p (g .pool))
-  count = says-count (page p (g .pool)) (parC 0 c) (o .next) (head s) (rest s) says
+  count : length (rest s) ≡ cellCount (page (g .pool) p)
+  count = says-count (page (g .pool) p) (parC 0 c) (o .next) (head s) (rest s) says
 
   longer : length (rest s′) ≡ suc (length (rest s))
   longer = o .count
@@ -199,7 +199,7 @@ module _ (c : Ctx) (g : Grown) (s s′ : Shape) (l sep new p : ℕ) (low : sep <
     g₁ = grown s₁ (g .state)
 
     abbrev i : ℕ
-    i = placeIn l (page p (g .pool))
+    i = placeIn (page (g .pool) p) l
 
     s₁-long : length s₁ ≡ length (g .pool)
     s₁-long = like-linked new p (g .pool) (there new n-low) .long
@@ -216,7 +216,7 @@ module _ (c : Ctx) (g : Grown) (s s′ : Shape) (l sep new p : ℕ) (low : sep <
     is₁ : view s₁ p ≡ innerPage (parC 0 c) (o .next) (head s) (rest s)
     is₁ = ap (λ (v : Pages). v p) view₁ ∙ o .is
 
-    place₁ : i ≡ placeIn l (page p s₁)
+    place₁ : i ≡ placeIn (page s₁ p) l
     place₁ = sym (alike-place l (like-linked new p (g .pool) (there new n-low) .each p))
 
     exact : length (rest s) ≡ 510
@@ -262,14 +262,14 @@ module _ (c : Ctx) (g : Grown) (s s′ : Shape) (l sep new p : ℕ) (low : sep <
         ∙ rw (going, view₁, o .rests, hv .middle, hv .rights, hv .lefts, sym (o .heads), hv .heads)
 
     abbrev key : ℕ
-    key = middleKey i sep new (page p s₁)
+    key = middleKey i sep new (page s₁ p)
 
     key-is : key ≡ y .mid
     key-is =
-        mid i l sep new (page p s₁) (parC 0 c) (o .next) (head s) (rest s)
+        mid i l sep new (page s₁ p) (parC 0 c) (o .next) (head s) (rest s)
         (bytes-page p s₁ s₁-bytes, length-page p s₁ (rw s₁-long (there p p-low)))
-        (inner-says (page p s₁) (sym (view-page p s₁) ∙ is₁)) place₁ (o .child) low n-fits
-        (sym (says-count (page p s₁) (parC 0 c) (o .next) (head s) (rest s) (inner-says (page p s₁) (sym (view-page p s₁) ∙ is₁))) ∙ exact)
+        (inner-says (page s₁ p) (sym (view-page p s₁) ∙ is₁)) place₁ (o .child) low n-fits
+        (sym (says-count (page s₁ p) (parC 0 c) (o .next) (head s) (rest s) (inner-says (page s₁ p) (sym (view-page p s₁) ∙ is₁))) ∙ exact)
         ∙ rw (o .rests, hv .middle)
 
     abbrev over-it : Shape
@@ -299,7 +299,7 @@ module _ (c : Ctx) (g : Grown) (s s′ : Shape) (l sep new p : ℕ) (low : sep <
         → Enters c (node p s) over-it p → Grew (length (g .pool)) (enterOf (p ∷ path c) l sep new g) (up (under p c) s′ u)
     halves rt room₂ few₂ again =
         let h : Grew (length (g₂ .pool)) (enterOf (path c) p key u g₂) (up c over-it (g₂ .state .used)) =
-        again g₂ key u (halved-root p i sep new g₁ ∙ rt) (middle-less i sep new (page p s₁)) (rw used₂ entry₂) bytes₂ (rw (used₂, long₂) room₂) (rw used₂ few₂) in
+        again g₂ key u (halved-root p i sep new g₁ ∙ rt) (middle-less i sep new (page s₁ p)) (rw used₂ entry₂) bytes₂ (rw (used₂, long₂) room₂) (rw used₂ few₂) in
         rw (enter-halved (path c) p l sep new g (omega (arith, full, count)), up-half p c s′ u over)
         (subst (λ (n : ℕ). Grew n (enterOf (path c) p key u g₂) (up c over-it (suc u))) long₂
         (subst (λ (n : ℕ). Grew (length (g₂ .pool)) (enterOf (path c) p key u g₂) (up c over-it n)) used₂ h))

@@ -60,12 +60,12 @@ abbrev keyFirst : List Row → ℕ
 keyFirst [] = 0
 keyFirst (x ∷ xs) = x .key
 
-first-from : (n at : ℕ) (pg : List ℕ) (z : Row) (rs : List Row) → rowsOf n at pg ≡ z ∷ rs → rankAt pg at ≡ z .key
+first-from : (n at : ℕ) (pg : List ℕ) (z : Row) (rs : List Row) → rowsOf pg n at ≡ z ∷ rs → rankAt pg at ≡ z .key
 unfolding cellsOf
 first-from zero at pg z rs e = absurd (let q : _≡_ {A = ℕ} 0 (suc (length rs)) = ap (λ (l : List Row). length l) e in omega arith)
 first-from (suc n) at pg z rs e = by-read (cellAt pg at) refl e
   where
-    by-read : (r : CellRead) → cellAt pg at ≡ r → map (rowOf pg) (onCell (λ c. c ∷ cellsOf n (c .next) pg) (λ kind. []) r) ≡ z ∷ rs → rankAt pg at ≡ z .key
+    by-read : (r : CellRead) → cellAt pg at ≡ r → map (rowOf pg) (onCell (λ c. c ∷ cellsOf pg n (c .next)) (λ kind. []) r) ≡ z ∷ rs → rankAt pg at ≡ z .key
     by-read (CellRead.Bad kind) h q = absurd (let d : _≡_ {A = ℕ} 0 (suc (length rs)) = ap (λ (l : List Row). length l) q in omega arith)
     by-read (CellRead.Got c) h q = sym (cell-fields pg at c h .key-is) ∙ ap keyFirst q
 
@@ -198,7 +198,7 @@ module _ (s : List ℕ) (root used : ℕ) (c : Ctx) (p : ℕ) (rs left : List Ro
     (f : WellFormed (view s) root used (plug c (leaf p rs))) (B : AreBytes s)
     (in-bounds : KeysIn (loC 0 c) (hiC top-key c) (left ++ (z ∷ right))) (sorted : Sorted (left ++ (z ∷ right)))
     (few-left : length (rowsBytes left) ≤ 4084) (few-right : length (rowsBytes (z ∷ right)) ≤ 4084) (fit-left : AllFit left) (fit-right : AllFit (z ∷ right))
-    (B-rows : AreBytes (part 0 12 (page p s) ++ rowsBytes (left ++ (z ∷ right))))
+    (B-rows : AreBytes (part 0 12 (page s p) ++ rowsBytes (left ++ (z ∷ right))))
     (deep : high c + dividedTree c p used left z right .grew ≤ 3)
     (room : usedAfter root (dividedTree c p used left z right) * 4096 ≤ length s) (few : usedAfter root (dividedTree c p used left z right) ≤ 65536) where
   abbrev st : State
@@ -241,13 +241,13 @@ module _ (s : List ℕ) (root used : ℕ) (c : Ctx) (p : ℕ) (rs left : List Ro
   abbrev s₁ : List ℕ
   s₁ = dividedRows p used left (z ∷ right) s₀
 
-  same-leaf : page p s₀ ≡ page p s
+  same-leaf : page s₀ p ≡ page s p
   same-leaf = fresh-other s st used-there p (λ e. omega (arith, p-low))
 
   s₀-long : length s₀ ≡ length s
   s₀-long = fresh-long s st used-there
 
-  fresh : page used s₀ ≡ zeros 4096
+  fresh : page s₀ used ≡ zeros 4096
   unfolding nextPage
   fresh = fresh-here s st used-there
 
@@ -286,8 +286,8 @@ module _ (s : List ℕ) (root used : ℕ) (c : Ctx) (p : ℕ) (rs left : List Ro
   right-is : view s₁ used ≡ rightPage
   right-is = ap (λ (w : Pages). w used) view₁ ∙ withPage-other (withPage (view s) used rightPage) p used leftPage apart ∙ withPage-same (view s) used rightPage
 
-  key-is : rankAt (page used s₁) 12 ≡ z .key
-  key-is = let says = leaf-says (page used s₁) (sym (view-page used s₁) ∙ right-is) in first-from _ 12 (page used s₁) z right (says .rows-are)
+  key-is : rankAt (page s₁ used) 12 ≡ z .key
+  key-is = let says = leaf-says (page s₁ used) (sym (view-page used s₁) ∙ right-is) in first-from _ 12 (page s₁ used) z right (says .rows-are)
 
   key-fits : z .key < 4294967296
   key-fits = rw (← key-is) (flip-less _)
@@ -355,7 +355,7 @@ module _ (s : List ℕ) (root used : ℕ) (c : Ctx) (p : ℕ) (rs left : List Ro
           s chained long₂ chains)
 
   up-is : (plan : Planned) → plan .path ≡ pathOf (p ∷ path c) → plan .cut ≡ cutAfter left
-      → dividedUp plan p (length (left ++ (z ∷ right))) (part 0 12 (page p s) ++ rowsBytes (left ++ (z ∷ right))) (grown s st) ≡ settled (path c) p used g₁
+      → dividedUp plan p (length (left ++ (z ∷ right))) (part 0 12 (page s p) ++ rowsBytes (left ++ (z ∷ right))) (grown s st) ≡ settled (path c) p used g₁
   unfolding dividedUp nextPage allocated
   up-is plan path-is cut-is = rw (path-is, path-above p (path c), cut-is, same-leaf, add-one used)
 
@@ -364,7 +364,7 @@ pub divided-up-wf : (s : List ℕ) (root used : ℕ) (t : Shape) (c : Ctx) (p : 
     → t ≡ plug c (leaf p rs) → WellFormed (view s) root used t → AreBytes s → AreBytes v
     → KeysIn (loC 0 c) (hiC top-key c) (left ++ (z ∷ right)) → Sorted (left ++ (z ∷ right))
     → length (rowsBytes left) ≤ 4084 → length (rowsBytes (z ∷ right)) ≤ 4084 → AllFit left → AllFit (z ∷ right)
-    → n ≡ length (left ++ (z ∷ right)) → v ≡ part 0 12 (page p s) ++ rowsBytes (left ++ (z ∷ right))
+    → n ≡ length (left ++ (z ∷ right)) → v ≡ part 0 12 (page s p) ++ rowsBytes (left ++ (z ∷ right))
     → plan .path ≡ pathOf (p ∷ path c) → plan .cut ≡ record { cells = length left; bytes = length (rowsBytes left) }
     → high c + dividedTree c p used left z right .grew ≤ 3
     → usedAfter root (dividedTree c p used left z right) * 4096 ≤ length s → usedAfter root (dividedTree c p used left z right) ≤ 65536
@@ -372,7 +372,7 @@ pub divided-up-wf : (s : List ℕ) (root used : ℕ) (t : Shape) (c : Ctx) (p : 
     (dividedUp plan p n v (grown s (record { root = root; used = used })))
 divided-up-wf s root used t c p rs left z right plan n v t-is f B Bv in-bounds sorted few-left few-right fit-left fit-right n-is v-is path-is cut-is deep room few =
     let f₁ : WellFormed (view s) root used (plug c (leaf p rs)) = subst (λ (x : Shape). WellFormed (view s) root used x) t-is f in
-    let B₁ : AreBytes (part 0 12 (page p s) ++ rowsBytes (left ++ (z ∷ right))) = subst AreBytes v-is Bv in
+    let B₁ : AreBytes (part 0 12 (page s p) ++ rowsBytes (left ++ (z ∷ right))) = subst AreBytes v-is Bv in
     rw (
       n-is,
       v-is,

@@ -16,8 +16,8 @@ use Rattle.tree_room.specs.declared.Planned.{Planned}
 -- to 11 stay 4"
 pub record Pinned (h : Grown) : Type 0 where
   pub state : h .state ≡ record { root = 3; used = 7 }
-  pub children : childrenOf (page 3 (h .pool)) ≡ 6 ∷ 4 ∷ []
-  pub next : nextLeaf (page 3 (h .pool)) ≡ 4
+  pub children : childrenOf (page (h .pool) 3) ≡ 6 ∷ 4 ∷ []
+  pub next : nextLeaf (page (h .pool) 3) ≡ 4
 
 abbrev pub PinnedRoot : Type 0
 PinnedRoot =

@@ -41,11 +41,11 @@ use Rattle.theory_plan.proofs.Sides.{rowSizes, cell-sizes, RowsCut, row
 -- ---- the leaf of a well-formed tree
 
 pub leaf-held : (s : List ℕ) (root used : ℕ) (c : Ctx) (p : ℕ) (rs : List Row) → WellFormed (view s) root used (plug c (leaf p rs))
-    → LeafSays (page p s) (parC 0 c) (nxtC 0 c) rs × KeysIn (loC 0 c) (hiC top-key c) rs × Sorted rs
+    → LeafSays (page s p) (parC 0 c) (nxtC 0 c) rs × KeysIn (loC 0 c) (hiC top-key c) rs × Sorted rs
 unfolding view
 leaf-held s root used c p rs f =
     let b = unplug-bnd 0 top-key c (leaf p rs) (f .bounds) .1 in
-    (leaf-says (page p s) (unplug-rep (view s) 0 0 c (leaf p rs) (f .rep) .1), b .0, b .1)
+    (leaf-says (page s p) (unplug-rep (view s) 0 0 c (leaf p rs) (f .rep) .1), b .0, b .1)
 
 -- ---- the place among the rows
 
@@ -133,10 +133,10 @@ fit-insert (suc i) r [] f g = (f, tt)
 fit-insert (suc i) r (y ∷ rs) f g = (g .0, fit-insert i r rs f (g .1))
 
 -- r goes to the spot x, in a page that holds rs
-module _ (used : ℕ) (s : List ℕ) (x : Spot) (r : Row) (rs : List Row) (is : SpotIs used (r .key) (r .creator) s x) (holds : rows (page (x .leaf) s) ≡ rs)
+module _ (used : ℕ) (s : List ℕ) (x : Spot) (r : Row) (rs : List Row) (is : SpotIs used (r .key) (r .creator) s x) (holds : rows (page s (x .leaf)) ≡ rs)
     (sorted : Sorted rs) (fit : RowFits r) where
   abbrev pg : List ℕ
-  pg = page (x .leaf) s
+  pg = page s (x .leaf)
 
   spot-place : x .place ≡ placeOf (r .key) (r .creator) (cells pg)
   spot-place = is .place ∙ sym (is .split .here)
@@ -183,14 +183,14 @@ module _ (used : ℕ) (s : List ℕ) (x : Spot) (r : Row) (rs : List Row) (is : 
       let n : length front ≡ x .place .before = length-map (beside .first) (rowOf pg) ∙ beside .before in
       sym insert-place ∙ rw (whole, take-at front back (x .place .before) n, drop-at front back (x .place .before) n)
 
-  cut-is : cutWith x (rowSize r) pg ≡ cutOf (bytesWith x (rowSize r)) (rowSizes (place r rs))
+  cut-is : cutWith pg x (rowSize r) ≡ cutOf (bytesWith x (rowSize r)) (rowSizes (place r rs))
   unfolding cutLeaf
   cut-is =
       let first-sizes = cell-sizes pg (is .sound .bytes) 12 (beside .first) (beside .chain) in
       let rest-sizes = cell-sizes pg (is .sound .bytes) (x .place .at) (beside .rest) (beside .chain-on) in
       rw (around, beside .front, beside .back, first-sizes, rest-sizes, map-append)
 
-  pub insert-cut : ltb 4084 (bytesWith x (rowSize r)) ≡ true → cutFits (bytesWith x (rowSize r)) (cutWith x (rowSize r) pg) ≡ true
-      → RowsCut (place r rs) (cutWith x (rowSize r) pg)
+  pub insert-cut : ltb 4084 (bytesWith x (rowSize r)) ≡ true → cutFits (bytesWith x (rowSize r)) (cutWith pg x (rowSize r)) ≡ true
+      → RowsCut (place r rs) (cutWith pg x (rowSize r))
   insert-cut o cuts =
-      rows-cut (place r rs) (bytesWith x (rowSize r)) (cutWith x (rowSize r) pg) insert-all-fit insert-size (ltb-true 4084 (bytesWith x (rowSize r)) o) cut-is cuts
+      rows-cut (place r rs) (bytesWith x (rowSize r)) (cutWith pg x (rowSize r)) insert-all-fit insert-size (ltb-true 4084 (bytesWith x (rowSize r)) o) cut-is cuts

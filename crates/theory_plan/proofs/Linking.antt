@@ -46,7 +46,7 @@ unfolding inUse
 use-all used [] h = refl
 use-all used (q ∷ l) h = rw (lt-ltb q used (h .0)) (use-all used l (h .1))
 
-children-add : (pg : List ℕ) (i m n : ℕ) → childrenFrom i (m + n) pg ≡ childrenFrom i m pg ++ childrenFrom (i + m) n pg
+children-add : (pg : List ℕ) (i m n : ℕ) → childrenFrom pg i (m + n) ≡ childrenFrom pg i m ++ childrenFrom pg (i + m) n
 unfolding childrenFrom
 children-add pg i zero n = rw (zero-add, add-zero)
 children-add pg i (suc m) n =
@@ -54,29 +54,29 @@ children-add pg i (suc m) n =
     rw (suc-add, e) (ap (λ (l : List ℕ). childAt pg i ∷ l) (children-add pg (i + 1) m n))
 
 -- what the page above a run says of its keys and children
-module _ (s : List ℕ) (p : ℕ) {par j h : ℕ} {r : List (ℕ × ℕ)} (is : InnerSays (page p s) par j h r) where
-  count-is : cellCount (page p s) ≡ length r
-  count-is = sym (entries-length 0 (cellCount (page p s)) (page p s)) ∙ ap length (is .entries)
+module _ (s : List ℕ) (p : ℕ) {par j h : ℕ} {r : List (ℕ × ℕ)} (is : InnerSays (page s p) par j h r) where
+  count-is : cellCount (page s p) ≡ length r
+  count-is = sym (entries-length 0 (cellCount (page s p)) (page s p)) ∙ ap length (is .entries)
 
-  children-are : childrenOf (page p s) ≡ kids h r
+  children-are : childrenOf (page s p) ≡ kids h r
   unfolding childrenFrom
   children-are =
-      let n : cellCount (page p s) + 1 ≡ suc (cellCount (page p s)) = omega arith in
-      rw n (rw (is .child, ← entries-children 0 (cellCount (page p s)) (page p s), is .entries))
+      let n : cellCount (page s p) + 1 ≡ suc (cellCount (page s p)) = omega arith in
+      rw n (rw (is .child, ← entries-children 0 (cellCount (page s p)) (page s p), is .entries))
 
 -- children that all have P: so have those that get a new link
-module _ (P : ℕ → Type 0) (pg : List ℕ) (i : ℕ) (all : All P (childrenFrom 0 511 pg)) where
-  moved-all : (relocated : Bool) → All P (relinksIn i relocated pg)
+module _ (P : ℕ → Type 0) (pg : List ℕ) (i : ℕ) (all : All P (childrenFrom pg 0 511)) where
+  moved-all : (relocated : Bool) → All P (relinksIn pg i relocated)
   unfolding relinksIn
   moved-all relocated =
       let k = firstMoved i in
       let n : k + (511 - k) ≡ 511 = omega (arith, first-few i {k = firstMoved i} refl) in
-      let both : All P (childrenFrom 0 k pg ++ childrenFrom k (511 - k) pg) = rw (← n, children-add pg 0 k (511 - k), zero-add k) at all in
-      all-app P (childrenFrom k (511 - k) pg) (pick relocated (childrenFrom 0 k pg) [])
-      (all-right P (childrenFrom 0 k pg) (childrenFrom k (511 - k) pg) both)
-      (by-place relocated (all-left P (childrenFrom 0 k pg) (childrenFrom k (511 - k) pg) both))
+      let both : All P (childrenFrom pg 0 k ++ childrenFrom pg k (511 - k)) = rw (← n, children-add pg 0 k (511 - k), zero-add k) at all in
+      all-app P (childrenFrom pg k (511 - k)) (pick relocated (childrenFrom pg 0 k) [])
+      (all-right P (childrenFrom pg 0 k) (childrenFrom pg k (511 - k)) both)
+      (by-place relocated (all-left P (childrenFrom pg 0 k) (childrenFrom pg k (511 - k)) both))
     where
-      by-place : (b : Bool) → All P (childrenFrom 0 (firstMoved i) pg) → All P (pick b (childrenFrom 0 (firstMoved i) pg) [])
+      by-place : (b : Bool) → All P (childrenFrom pg 0 (firstMoved i)) → All P (pick b (childrenFrom pg 0 (firstMoved i)) [])
       by-place true h = h
       by-place false h = tt
 
@@ -85,15 +85,15 @@ module _ (P : ℕ → Type 0) (pg : List ℕ) (i : ℕ) (all : All P (childrenFr
 -- every page of the tree is in use, and so is every child of a page above the run
 module _ (used : ℕ) (s : List ℕ) (P N : ℕ) where
   relinks-low : (old : ℕ) (c : Ctx) (t : Shape) → HoldsC (view s) P N c (head t) (rest t) (first t) → All (λ q. q < used) (pagesIn (plug c t))
-      → All (λ q. q < used) (relinks old (path c) s)
+      → All (λ q. q < used) (relinks s old (path c))
   unfolding relinks view
   relinks-low old top t g b = tt
   relinks-low old (inL k y c) t g b = relinks-low old c (pair t k y) (g .1) b
   relinks-low old (inR x k c) t g b = relinks-low old c (pair x k t) (g .1) b
-  relinks-low old (under p c) t g b = by-count (eqb (cellCount (page p s)) 510) refl (relinks-low p c (node p t) (g .2) b)
+  relinks-low old (under p c) t g b = by-count (eqb (cellCount (page s p)) 510) refl (relinks-low p c (node p t) (g .2) b)
     where
-      is : InnerSays (page p s) (parC P c) (g .0) (head t) (rest t)
-      is = inner-says (page p s) (g .1)
+      is : InnerSays (page s p) (parC P c) (g .0) (head t) (rest t)
+      is = inner-says (page s p) (g .1)
 
       here : All (λ q. q < used) (pagesIn t ++ postG c)
       here = all-right (λ q. q < used) (preG c) (p ∷ (pagesIn t ++ postG c)) (rw (plug-pages c (node p t)) at b) .1
@@ -101,20 +101,20 @@ module _ (used : ℕ) (s : List ℕ) (P N : ℕ) where
       low : All (λ q. q < used) (kids (head t) (rest t))
       low = subst (All (λ q. q < used)) (roots-is t) (roots-all (λ q. q < used) t (all-left (λ q. q < used) (pagesIn t) (postG c) here))
 
-      by-count : (x : Bool) → eqb (cellCount (page p s)) 510 ≡ x → All (λ q. q < used) (relinks p (path c) s)
-          → All (λ q. q < used) (pick x (relinksIn (placeIn old (page p s)) (keepsNumber p (path c)) (page p s) ++ relinks p (path c) s) [])
+      by-count : (x : Bool) → eqb (cellCount (page s p)) 510 ≡ x → All (λ q. q < used) (relinks s p (path c))
+          → All (λ q. q < used) (pick x (relinksIn (page s p) (placeIn (page s p) old) (keepsNumber p (path c)) ++ relinks s p (path c)) [])
       by-count true e h =
-          let n : cellCount (page p s) + 1 ≡ 511 = rw (eqb-true (cellCount (page p s)) 510 e) in
-          let all : All (λ q. q < used) (childrenFrom 0 511 (page p s)) = rw (← n, children-are s p is) low in
-          all-app (λ q. q < used) (relinksIn (placeIn old (page p s)) (keepsNumber p (path c)) (page p s)) (relinks p (path c) s)
-          (moved-all (λ q. q < used) (page p s) (placeIn old (page p s)) all (keepsNumber p (path c))) h
+          let n : cellCount (page s p) + 1 ≡ 511 = rw (eqb-true (cellCount (page s p)) 510 e) in
+          let all : All (λ q. q < used) (childrenFrom (page s p) 0 511) = rw (← n, children-are s p is) low in
+          all-app (λ q. q < used) (relinksIn (page s p) (placeIn (page s p) old) (keepsNumber p (path c))) (relinks s p (path c))
+          (moved-all (λ q. q < used) (page s p) (placeIn (page s p) old) all (keepsNumber p (path c))) h
       by-count false e h = tt
 
 pub plan-ok : (s : List ℕ) (root used : ℕ) (c : Ctx) (p : ℕ) (rs : List Row) → WellFormed (view s) root used (plug c (leaf p rs))
     → planOf s used p (path c) ≡ Plan.Ok (divisionOf (path c) s)
 unfolding planOf
 plan-ok s root used c p rs f =
-    rw (use-all used (relinks p (path c) s) (relinks-low used s 0 0 p c (leaf p rs) (unplug-rep (view s) 0 0 c (leaf p rs) (f .rep) .0) (f .below)))
+    rw (use-all used (relinks s p (path c)) (relinks-low used s 0 0 p c (leaf p rs) (unplug-rep (view s) 0 0 c (leaf p rs) (f .rep) .0) (f .below)))
 
 -- ---- the pages that divide
 
@@ -130,13 +130,13 @@ module _ (s : List ℕ) (P N : ℕ) where
   grew-is (inR x k c) t t′ u g n = grew-is c (pair x k t) (pair x k t′) u (g .1)
       (omega (arith, length-append (rest x) ((k, head t) ∷ rest t), length-append (rest x) ((k, head t′) ∷ rest t′)))
   grew-is (under p c) t t′ u g n =
-      by-count (eqb (cellCount (page p s)) 510) refl
+      by-count (eqb (cellCount (page s p)) 510) refl
       (grew-is c (node p t) (pair (node p (cut 255 t′ .left)) (cut 255 t′ .mid) (node u (cut 255 t′ .right))) (suc u) (g .2) refl)
     where
-      is : InnerSays (page p s) (parC P c) (g .0) (head t) (rest t)
-      is = inner-says (page p s) (g .1)
+      is : InnerSays (page s p) (parC P c) (g .0) (head t) (rest t)
+      is = inner-says (page s p) (g .1)
 
-      count : cellCount (page p s) ≡ length (rest t)
+      count : cellCount (page s p) ≡ length (rest t)
       count = count-is s p is
 
       k : ℕ
@@ -145,18 +145,18 @@ module _ (s : List ℕ) (P N : ℕ) where
       more : Grown
       more = up c (pair (node p (cut 255 t′ .left)) (cut 255 t′ .mid) (node u (cut 255 t′ .right))) (suc u)
 
-      by-count : (x : Bool) → eqb (cellCount (page p s)) 510 ≡ x
+      by-count : (x : Bool) → eqb (cellCount (page s p)) 510 ≡ x
           → (more .grew ≡ pick (eqb k (length (path c))) 1 0) × (more .used ≡ suc u + k + pick (eqb k (length (path c))) 1 0)
           → (up (under p c) t′ u .grew ≡ pick (eqb (pick x (suc k) 0) (suc (length (path c)))) 1 0)
           × (up (under p c) t′ u .used ≡ u + pick x (suc k) 0 + pick (eqb (pick x (suc k) 0) (suc (length (path c)))) 1 0)
       by-count true e h =
-          let full = eqb-true (cellCount (page p s)) 510 e in
+          let full = eqb-true (cellCount (page s p)) 510 e in
           rw (up-half p c t′ u (omega (arith, count)), eqb·suc-suc k (length (path c))) (h .0, omega (arith, h .1))
       by-count false e h =
           let low = is .high in
-          let other = eqb-false (cellCount (page p s)) 510 e in
-          let few : cellCount (page p s) < 510 =
-          ⊎-elim (λ (m : 510 ≤ cellCount (page p s)). absurd (other (omega arith))) (λ (m : cellCount (page p s) < 510). m) (le-or-lt 510 (cellCount (page p s))) in
+          let other = eqb-false (cellCount (page s p)) 510 e in
+          let few : cellCount (page s p) < 510 =
+          ⊎-elim (λ (m : 510 ≤ cellCount (page s p)). absurd (other (omega arith))) (λ (m : cellCount (page s p) < 510). m) (le-or-lt 510 (cellCount (page s p))) in
           rw (up-room p c t′ u (omega (arith, count)), eqb·zero-suc (length (path c))) (refl, omega arith)
 
   -- the plan's words for it

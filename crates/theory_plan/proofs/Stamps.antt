@@ -42,10 +42,10 @@ use Rattle.theory_tree.proofs.Lists.{all-app, all-left, all-right}
 use Rattle.theory_plan.proofs.Sides.{rowSizes, sizes-bytes, sizes-between, cell-sizes, fit-left, fit-right, fit-append, RowsCut, rows-cut}
 
 -- the leaf of what a lookup found is sound
-pub met-sound : (used p : ℕ) (c : Cell) (s : List ℕ) → AreBytes s → used * 4096 ≤ length s → (m : CellMet used p c s) → Sound (page p s) (m .end)
+pub met-sound : (used p : ℕ) (c : Cell) (s : List ℕ) → AreBytes s → used * 4096 ≤ length s → (m : CellMet used p c s) → Sound (page s p) (m .end)
 met-sound used p c s B room m =
     let low = m .in-use in
-    record { bytes = bytes-page p s B; whole = length-page p s (omega arith); judged = any-page p 0 (m .end) (page p s) (m .judged) }
+    record { bytes = bytes-page p s B; whole = length-page p s (omega arith); judged = any-page p 0 (m .end) (page s p) (m .judged) }
 
 -- the rows of the leaf pg, where the cell c, with others before and after it, is stamped by d
 abbrev pub stampedRows : (d : ℕ) → (before : List Cell) → Cell → (after : List Cell) → (pg : List ℕ) → List Row
@@ -72,7 +72,7 @@ other-row xs y z ys =
 module _ (pg : List ℕ) (e p d : ℕ) (before after : List Cell) (c : Cell) (sound : Sound pg e) (among : cells pg ≡ before ++ (c ∷ after))
     (fits : d < 18446744073709551616) where
   abbrev target : Target
-  target = targetOf p c pg
+  target = targetOf pg p c
 
   abbrev stamped : List Row
   stamped = stampedRows d before c after pg
@@ -138,7 +138,7 @@ module _ (pg : List ℕ) (e p d : ℕ) (before after : List Cell) (c : Cell) (so
       let n = length-append (map (rowOf pg) before) (stampRow d (rowOf pg c) ∷ map (rowOf pg) after) in
       omega (arith, stamp-count, length-map before (rowOf pg), length-map after (rowOf pg))
 
-  cut-is : cutStamped target pg ≡ cutOf (bytesStamped target) (rowSizes stamped)
+  cut-is : cutStamped pg target ≡ cutOf (bytesStamped target) (rowSizes stamped)
   unfolding cutLeaf
   cut-is =
       let first-sizes = cell-sizes pg (sound .bytes) 12 before first-chain in
@@ -146,7 +146,7 @@ module _ (pg : List ℕ) (e p d : ℕ) (before after : List Cell) (c : Cell) (so
       rw (stamp-beside, after-count, chain-back pg 12 before first-chain, chain-back pg (c .next) after (rest-chain .1), this-size, map-append, first-sizes, rest-sizes)
 
   -- a stamp is never Undividable
-  pub stamp-cuts : ltb 4084 (bytesStamped target) ≡ true → cutFits (bytesStamped target) (cutStamped target pg) ≡ true
+  pub stamp-cuts : ltb 4084 (bytesStamped target) ≡ true → cutFits (bytesStamped target) (cutStamped pg target) ≡ true
   stamp-cuts o =
       let over = ltb-true 4084 (bytesStamped target) o in
       let sizes : bytesStamped target ≡ sum (rowSizes stamped) = stamp-size ∙ sym (sizes-bytes stamped) in
@@ -154,5 +154,5 @@ module _ (pg : List ℕ) (e p d : ℕ) (before after : List Cell) (c : Cell) (so
       let few : bytesStamped target ≤ 4092 = rw stamp-beside (omega (arith, stamp-len (c .version .stamp))) in
       rw (cut-is, sizes) (stamp-divides (rowSizes stamped) (sizes-between stamped stamp-all-fit) (omega arith) (omega arith))
 
-  pub stamp-cut : ltb 4084 (bytesStamped target) ≡ true → RowsCut stamped (cutStamped target pg)
-  stamp-cut o = rows-cut stamped (bytesStamped target) (cutStamped target pg) stamp-all-fit stamp-size (ltb-true 4084 (bytesStamped target) o) cut-is (stamp-cuts o)
+  pub stamp-cut : ltb 4084 (bytesStamped target) ≡ true → RowsCut stamped (cutStamped pg target)
+  stamp-cut o = rows-cut stamped (bytesStamped target) (cutStamped pg target) stamp-all-fit stamp-size (ltb-true 4084 (bytesStamped target) o) cut-is (stamp-cuts o)

@@ -154,7 +154,7 @@ module _ (old : ℕ) (e : ℕ × ℕ) where
 
 -- ---- a page with room
 
-module _ (i old sep new : ℕ) (pg : List ℕ) (par j h : ℕ) (r : List (ℕ × ℕ)) (is : IsPage pg) (says : InnerSays pg par j h r) (place : i ≡ placeIn old pg)
+module _ (i old sep new : ℕ) (pg : List ℕ) (par j h : ℕ) (r : List (ℕ × ℕ)) (is : IsPage pg) (says : InnerSays pg par j h r) (place : i ≡ placeIn pg old)
     (child : has old h r ≡ true) (sep-fits : sep < 4294967296) (new-fits : new < 4294967296) where
   place-is : i ≡ childPlace old (kids h r)
   place-is = place ∙ ap (childPlace old) (says-children pg par j h r says)

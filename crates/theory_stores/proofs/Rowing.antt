@@ -73,30 +73,30 @@ abbrev pub cutAfter : List Row → Cut
 cutAfter left = record { cells = length left; bytes = length (rowsBytes left) }
 
 abbrev pub dividedRows : (p q : ℕ) → (left right : List Row) → List ℕ → List ℕ
-dividedRows p q left right s = divided p q (length (left ++ right)) (cutAfter left) (part 0 12 (page p s) ++ rowsBytes (left ++ right)) s
+dividedRows p q left right s = divided p q (length (left ++ right)) (cutAfter left) (part 0 12 (page s p) ++ rowsBytes (left ++ right)) s
 
-module _ (p q : ℕ) (s : List ℕ) (left right : List Row) (here : There p s) (there : There q s) (fresh : page q s ≡ zeros 4096)
+module _ (p q : ℕ) (s : List ℕ) (left right : List Row) (here : There p s) (there : There q s) (fresh : page s q ≡ zeros 4096)
     (few-left : length (rowsBytes left) ≤ 4084) (few-right : length (rowsBytes right) ≤ 4084) where
-  len : length (page p s) ≡ 4096
+  len : length (page s p) ≡ 4096
   len = length-page p s here
 
   abbrev v : List ℕ
-  v = part 0 12 (page p s) ++ rowsBytes (left ++ right)
+  v = part 0 12 (page s p) ++ rowsBytes (left ++ right)
 
-  left-is : leftLeaf q (cutAfter left) v ≡ withNextLeaf q (writeRows left (page p s))
-  left-is = divide-divides (page p s) left right q 0 len few-left few-right .0
+  left-is : leftLeaf q (cutAfter left) v ≡ withNextLeaf q (writeRows left (page s p))
+  left-is = divide-divides (page s p) left right q 0 len few-left few-right .0
 
-  right-is : (next : ℕ) → rightLeaf next (length (left ++ right)) (cutAfter left) v (page q s) ≡ withNextLeaf next (writeRows right blank)
-  right-is next = rw fresh (divide-divides (page p s) left right q next len few-left few-right .1)
+  right-is : (next : ℕ) → rightLeaf next (length (left ++ right)) (cutAfter left) v (page s q) ≡ withNextLeaf next (writeRows right blank)
+  right-is next = rw fresh (divide-divides (page s p) left right q next len few-left few-right .1)
 
   left-long : length (leftLeaf q (cutAfter left) v) ≡ 4096
-  left-long = rw left-is (length-putAt 4 (writeRows left (page p s)) 8 q ∙ rows-long left (page p s) len few-left)
+  left-long = rw left-is (length-putAt 4 (writeRows left (page s p)) 8 q ∙ rows-long left (page s p) len few-left)
 
-  right-long : (next : ℕ) → length (rightLeaf next (length (left ++ right)) (cutAfter left) v (page q s)) ≡ 4096
+  right-long : (next : ℕ) → length (rightLeaf next (length (left ++ right)) (cutAfter left) v (page s q)) ≡ 4096
   right-long next = rw (right-is next) (length-putAt 4 (writeRows right blank) 8 next ∙ rows-long right blank blank-long few-right)
 
-  beside : length (setPage q (rightLeaf (nextLeaf (page p s)) (length (left ++ right)) (cutAfter left) v (page q s)) s) ≡ length s
-  beside = length-setPage q (rightLeaf (nextLeaf (page p s)) (length (left ++ right)) (cutAfter left) v (page q s)) s there (right-long (nextLeaf (page p s)))
+  beside : length (setPage q (rightLeaf (nextLeaf (page s p)) (length (left ++ right)) (cutAfter left) v (page s q)) s) ≡ length s
+  beside = length-setPage q (rightLeaf (nextLeaf (page s p)) (length (left ++ right)) (cutAfter left) v (page s q)) s there (right-long (nextLeaf (page s p)))
 
   pub divided-long : length (dividedRows p q left right s) ≡ length s
   unfolding divided
@@ -106,18 +106,18 @@ module _ (p q : ℕ) (s : List ℕ) (left right : List Row) (here : There p s) (
       → view (dividedRows p q left right s) ≡ withPage (withPage (view s) q (leafPage 0 next right)) p (leafPage par q left)
   unfolding divided
   view-divided par next old B low e fit-left fit-right =
-      let l = leaf-says (page p s) (sym (view-page p s) ∙ e) in
-      let small : nextLeaf (page p s) < 4294967296 = leAt-lt 4 (page p s) 8 (bytes-page p s B) in
+      let l = leaf-says (page s p) (sym (view-page p s) ∙ e) in
+      let small : nextLeaf (page s p) < 4294967296 = leAt-lt 4 (page s p) 8 (bytes-page p s B) in
       let x : said (leftLeaf q (cutAfter left) v) ≡ leafPage par q left =
       rw left-is
-      (said-next q (writeRows left (page p s)) par next left (rows-long left (page p s) len few-left) low
-      (said-rows left (page p s) len (l .type) fit-left few-left ∙ rw (l .parent, l .next))) in
-      let y : said (rightLeaf (nextLeaf (page p s)) (length (left ++ right)) (cutAfter left) v (page q s)) ≡ leafPage 0 next right =
-      rw (right-is (nextLeaf (page p s)))
-      (said-next (nextLeaf (page p s)) (writeRows right blank) 0 0 right (rows-long right blank blank-long few-right) small (said-blank right fit-right few-right)
+      (said-next q (writeRows left (page s p)) par next left (rows-long left (page s p) len few-left) low
+      (said-rows left (page s p) len (l .type) fit-left few-left ∙ rw (l .parent, l .next))) in
+      let y : said (rightLeaf (nextLeaf (page s p)) (length (left ++ right)) (cutAfter left) v (page s q)) ≡ leafPage 0 next right =
+      rw (right-is (nextLeaf (page s p)))
+      (said-next (nextLeaf (page s p)) (writeRows right blank) 0 0 right (rows-long right blank blank-long few-right) small (said-blank right fit-right few-right)
       ∙ rw (l .next)) in
       view-set p (leftLeaf q (cutAfter left) v) (setPage q _ s) (rw beside here) left-long
-      ∙ ap₂ (λ (w : Pages) (z : Page). withPage w p z) (view-set q _ s there (right-long (nextLeaf (page p s))) ∙ ap (withPage (view s) q) y) x
+      ∙ ap₂ (λ (w : Pages) (z : Page). withPage w p z) (view-set q _ s there (right-long (nextLeaf (page s p))) ∙ ap (withPage (view s) q) y) x
 
 -- v is of bytes where the rows' data is
 pub bytes-divided : (p q n : ℕ) (cut : Cut) (v s : List ℕ) → AreBytes v → AreBytes s → AreBytes (divided p q n cut v s)
@@ -127,8 +127,8 @@ bytes-divided p q n cut v s h B =
     bytes-set-page p _ _
     (bytes-field 4 _ 8 q (bytes-field 2 _ 6 (cut .cells) (bytes-pad 4096 (part 0 k v) (bytes-part 0 k v h))))
     (bytes-set-page q _ s
-    (bytes-field 4 _ 8 (nextLeaf (page p s)) (bytes-field 2 _ 6 (n - cut .cells) (bytes-pad 4096 _
-    (bytes-append (part 0 12 (withNodeType 1 (page q s))) (part k (length v - k) v)
-    (bytes-part 0 12 _ (bytes-field 1 (page q s) 0 1 (bytes-page q s B)))
+    (bytes-field 4 _ 8 (nextLeaf (page s p)) (bytes-field 2 _ 6 (n - cut .cells) (bytes-pad 4096 _
+    (bytes-append (part 0 12 (withNodeType 1 (page s q))) (part k (length v - k) v)
+    (bytes-part 0 12 _ (bytes-field 1 (page s q) 0 1 (bytes-page q s B)))
     (bytes-part k (length v - k) v h)))))
     B)

@@ -77,7 +77,7 @@ unfolding withFresh
 bytes-fresh s st B = bytes-set-page (nextPage s st) (zeros 4096) s (bytes-zeros 4096) B
 
 pub bytes-linked : (c q : ℕ) (s : List ℕ) → AreBytes s → AreBytes (linked c q s)
-bytes-linked c q s B = bytes-set-page c _ s (bytes-field 4 (page c s) 2 q (bytes-page c s B)) B
+bytes-linked c q s B = bytes-set-page c _ s (bytes-field 4 (page s c) 2 q (bytes-page c s B)) B
 
 -- ---- parent links, one after another
 
@@ -89,35 +89,35 @@ pub record Adopts (q : ℕ) (ks s t : List ℕ) : Type 0 where
   pub views : view t ≡ reparent q ks (view s)
   pub long : length t ≡ length s
   pub bytes : AreBytes s → AreBytes t
-  pub next : (x : ℕ) → nextLeaf (page x t) ≡ nextLeaf (page x s)
+  pub next : (x : ℕ) → nextLeaf (page t x) ≡ nextLeaf (page s x)
 
 adopts-none : (q : ℕ) (s : List ℕ) → Adopts q [] s s
 adopts-none q s = record { views = refl; long = refl; bytes = λ b. b; next = λ x. refl }
 
-linked-next : (c q : ℕ) (s : List ℕ) → There c s → (x : ℕ) → nextLeaf (page x (linked c q s)) ≡ nextLeaf (page x s)
+linked-next : (c q : ℕ) (s : List ℕ) → There c s → (x : ℕ) → nextLeaf (page (linked c q s) x) ≡ nextLeaf (page s x)
 linked-next c q s h x = by-page (eqb x c) refl
   where
-    len : length (withParent q (page c s)) ≡ 4096
-    len = length-putAt 4 (page c s) 2 q ∙ length-page c s h
+    len : length (withParent q (page s c)) ≡ 4096
+    len = length-putAt 4 (page s c) 2 q ∙ length-page c s h
 
-    by-page : (b : Bool) → eqb x c ≡ b → nextLeaf (page x (linked c q s)) ≡ nextLeaf (page x s)
-    by-page true e = rw (eqb-true x c e, page-setPage c (withParent q (page c s)) s h len) (leAt-putAt-above 4 4 (page c s) 2 q 8 (omega arith))
-    by-page false e = ap nextLeaf (page-setPage-other c (withParent q (page c s)) s h len x (eqb-false x c e))
+    by-page : (b : Bool) → eqb x c ≡ b → nextLeaf (page (linked c q s) x) ≡ nextLeaf (page s x)
+    by-page true e = rw (eqb-true x c e, page-setPage c (withParent q (page s c)) s h len) (leAt-putAt-above 4 4 (page s c) 2 q 8 (omega arith))
+    by-page false e = ap nextLeaf (page-setPage-other c (withParent q (page s c)) s h len x (eqb-false x c e))
 
-children-same : (a b : List ℕ) → ((k : ℕ) → childAt a k ≡ childAt b k) → (n i : ℕ) → childrenFrom i n a ≡ childrenFrom i n b
+children-same : (a b : List ℕ) → ((k : ℕ) → childAt a k ≡ childAt b k) → (n i : ℕ) → childrenFrom a i n ≡ childrenFrom b i n
 children-same a b h n i = rw (children-read n i a, children-read n i b) (read-ext (childAt a) (childAt b) n i i (λ k l. h (i + k)))
 
-adopts-from : (n i p q : ℕ) (s : List ℕ) → q < 4294967296 → All (λ c. There c s) (childrenFrom i n (page p s))
-    → Adopts q (childrenFrom i n (page p s)) s (adopted n i p q s)
+adopts-from : (n i p q : ℕ) (s : List ℕ) → q < 4294967296 → All (λ c. There c s) (childrenFrom (page s p) i n)
+    → Adopts q (childrenFrom (page s p) i n) s (adopted n i p q s)
 unfolding adopted childrenFrom
 adopts-from zero i p q s l h = adopts-none q s
 adopts-from (suc n) i p q s l h =
-    let c = childAt (page p s) i in
+    let c = childAt (page s p) i in
     let t = linked c q s in
     let like = like-linked c q s (h .0) in
-    let same : childrenFrom (i + 1) n (page p t) ≡ childrenFrom (i + 1) n (page p s) = children-same (page p t) (page p s) (like .each p .child) n (i + 1) in
-    let there : All (λ x. There x t) (childrenFrom (i + 1) n (page p t)) =
-    subst (λ (ks : List ℕ). All (λ x. There x t) ks) (sym same) (all-there s t (childrenFrom (i + 1) n (page p s)) (like .long) (h .1)) in
+    let same : childrenFrom (page t p) (i + 1) n ≡ childrenFrom (page s p) (i + 1) n = children-same (page t p) (page s p) (like .each p .child) n (i + 1) in
+    let there : All (λ x. There x t) (childrenFrom (page t p) (i + 1) n) =
+    subst (λ (ks : List ℕ). All (λ x. There x t) ks) (sym same) (all-there s t (childrenFrom (page s p) (i + 1) n) (like .long) (h .1)) in
     let ih = adopts-from n (i + 1) p q t l there in
     record {
       views = ih .views ∙ ap₂ (λ (ks : List ℕ) (w : Pages). reparent q ks w) same (view-linked c q s (h .0) l);
@@ -126,7 +126,7 @@ adopts-from (suc n) i p q s l h =
       next = λ x. ih .next x ∙ linked-next c q s (h .0) x;
     }
 
-pub adopts : (n i p q : ℕ) (ks s : List ℕ) → q < 4294967296 → childrenFrom i n (page p s) ≡ ks → All (λ c. There c s) ks → Adopts q ks s (adopted n i p q s)
+pub adopts : (n i p q : ℕ) (ks s : List ℕ) → q < 4294967296 → childrenFrom (page s p) i n ≡ ks → All (λ c. There c s) ks → Adopts q ks s (adopted n i p q s)
 adopts n i p q ks s l e h =
     subst (λ (cs : List ℕ). Adopts q cs s (adopted n i p q s)) e (adopts-from n i p q s l (subst (λ (cs : List ℕ). All (λ c. There c s) cs) (sym e) h))
 
@@ -137,10 +137,10 @@ module _ (p old sep new : ℕ) (g : Grown) (par j h : ℕ) (r : List (ℕ × ℕ
     (is : view (g .pool) p ≡ innerPage par j h r) (child : has old h r ≡ true) (few : length r < 510)
     (p-fits : p < 4294967296) (sep-fits : sep < 4294967296) (new-fits : new < 4294967296) where
   abbrev pg : List ℕ
-  pg = page p (g .pool)
+  pg = page (g .pool) p
 
   abbrev entry : List ℕ
-  entry = withEntry (placeIn old pg) sep new pg
+  entry = withEntry (placeIn pg old) sep new pg
 
   whole : IsPage pg
   whole = (bytes-page p (g .pool) B, length-page p (g .pool) p-there)
@@ -152,7 +152,7 @@ module _ (p old sep new : ℕ) (g : Grown) (par j h : ℕ) (r : List (ℕ × ℕ
   room = rw (← (says-count pg par j h r says)) few
 
   long : length entry ≡ 4096
-  long = entry-long (placeIn old pg) old sep new pg par j h r whole says refl child sep-fits new-fits room
+  long = entry-long (placeIn pg old) old sep new pg par j h r whole says refl child sep-fits new-fits room
 
   stored-long : length (setPage p entry (g .pool)) ≡ length (g .pool)
   stored-long = length-setPage p entry (g .pool) p-there long
@@ -163,7 +163,7 @@ module _ (p old sep new : ℕ) (g : Grown) (par j h : ℕ) (r : List (ℕ × ℕ
       view-linkedBoth old new p (setPage p entry (g .pool)) (rw stored-long old-there) (rw stored-long new-there) p-fits
       ∙ ap (reparent p (old ∷ new ∷ []))
       (view-set p entry (g .pool) p-there long
-      ∙ ap (withPage (view (g .pool)) p) (said-entry (placeIn old pg) old sep new pg par j h r whole says refl child sep-fits new-fits room))
+      ∙ ap (withPage (view (g .pool)) p) (said-entry (placeIn pg old) old sep new pg par j h r whole says refl child sep-fits new-fits room))
 
   pub joined-length : length (joinedTo p old sep new g .pool) ≡ length (g .pool)
   unfolding joinedTo
@@ -176,7 +176,7 @@ module _ (p old sep new : ℕ) (g : Grown) (par j h : ℕ) (r : List (ℕ × ℕ
 -- ---- page p has 510 keys
 
 module _ (p i old sep new : ℕ) (g : Grown) (par j h : ℕ) (r : List (ℕ × ℕ)) (B : AreBytes (g .pool)) (free : Free g) (less : p < g .state .used)
-    (is : view (g .pool) p ≡ innerPage par j h r) (place : i ≡ placeIn old (page p (g .pool))) (child : has old h r ≡ true) (full : length r ≡ 510)
+    (is : view (g .pool) p ≡ innerPage par j h r) (place : i ≡ placeIn (page (g .pool) p) old) (child : has old h r ≡ true) (full : length r ≡ 510)
     (sep-fits : sep < 4294967296) (new-fits : new < 4294967296)
     (moved-there : All (λ c. There c (g .pool)) (kids (getD (insAfter old (sep, new) h r) 255 (0, 0) .1) (drop 256 (insAfter old (sep, new) h r)))) where
   abbrev R : List (ℕ × ℕ)
@@ -186,7 +186,7 @@ module _ (p i old sep new : ℕ) (g : Grown) (par j h : ℕ) (r : List (ℕ × �
   u = g .state .used
 
   abbrev here : List ℕ
-  here = page p (g .pool)
+  here = page (g .pool) p
 
   abbrev goes : List ℕ
   goes = kids (getD R 255 (0, 0) .1) (drop 256 R)
@@ -246,10 +246,10 @@ module _ (p i old sep new : ℕ) (g : Grown) (par j h : ℕ) (r : List (ℕ × �
   said-r : said right ≡ innerPage 0 0 (getD R 255 (0, 0) .1) (drop 256 R)
   said-r = said-right i old sep new here par j h r whole₂ says₂ place child sep-fits new-fits full₂
 
-  right-there : page u s₂ ≡ right
+  right-there : page s₂ u ≡ right
   right-there = page-setPage-other p left s₁ p-there₂ l-long u (λ e. omega arith) ∙ page-setPage u right s₀ u-there r-long
 
-  right-kids : childrenFrom 0 256 right ≡ goes
+  right-kids : childrenFrom right 0 256 ≡ goes
   right-kids =
       let says = inner-says right said-r in
       let n : cellCount right ≡ 255 =
@@ -343,12 +343,12 @@ relinks z s l some there = by-page (view s z) refl some there
   where
     by-page : (x : Page) → view s z ≡ x → (x ≡ noPage → ⊥) → All (λ c. There c s) (under? x) → Adopts z (under? x) s (relinked z s)
     by-page (leafPage par nxt rs) e n h =
-        let t = leaf-says (page z s) (sym (view-page z s) ∙ e) in
+        let t = leaf-says (page s z) (sym (view-page z s) ∙ e) in
         subst (λ (x : List ℕ). Adopts z [] s x) (relink-leaf z s refl refl refl (λ k. let a : _≡_ {A = ℕ} 0 1 = sym k ∙ t .type in omega arith)) (adopts-none z s)
     by-page (innerPage par j h r) e n a =
-        let t = inner-says (page z s) (sym (view-page z s) ∙ e) in
+        let t = inner-says (page s z) (sym (view-page z s) ∙ e) in
         subst (λ (x : List ℕ). Adopts z (kids h r) s x) (relink-inner z s refl refl refl (t .type) refl)
-        (adopts (cellCount (page z s) + 1) 0 z z (kids h r) s l (says-children (page z s) par j h r t) a)
+        (adopts (cellCount (page s z) + 1) 0 z z (kids h r) s l (says-children (page s z) par j h r t) a)
     by-page noPage e n a = absurd (n refl)
 
 under-setPar : (q : ℕ) (x : Page) → under? (setPar q x) ≡ under? x
@@ -369,7 +369,7 @@ next-is-said pg n = by-page (said pg) refl n
     by-page (innerPage par j h r) e n = inner-says pg e .next
     by-page noPage e n = absurd (n refl)
 
-first-entry : (n : ℕ) (pg : List ℕ) (e : ℕ × ℕ) (r : List (ℕ × ℕ)) → entriesFrom 0 n pg ≡ e ∷ r → (keyAt pg 0 ≡ e .0) × (childAt pg 1 ≡ e .1)
+first-entry : (n : ℕ) (pg : List ℕ) (e : ℕ × ℕ) (r : List (ℕ × ℕ)) → entriesFrom pg 0 n ≡ e ∷ r → (keyAt pg 0 ≡ e .0) × (childAt pg 1 ≡ e .1)
 unfolding entriesFrom
 first-entry zero pg e r q = absurd (let z : _≡_ {A = ℕ} 0 1 = cc in omega arith)
 first-entry (suc n) pg e r q = (ap (λ (l : List (ℕ × ℕ)). getD l 0 (0, 0) .0) q, ap (λ (l : List (ℕ × ℕ)). getD l 0 (0, 0) .1) q)
@@ -389,7 +389,7 @@ module _ (fixed sep new : ℕ) (g : Grown) (par j h : ℕ) (r : List (ℕ × ℕ
   z = g .state .used
 
   abbrev rootPage : List ℕ
-  rootPage = page (g .state .root) (g .pool)
+  rootPage = page (g .pool) (g .state .root)
 
   entry-is : (keyAt rootPage 0 ≡ sep) × (childAt rootPage 1 ≡ new)
   entry-is = first-entry (cellCount rootPage) rootPage (sep, new) r (inner-says rootPage (sym (view-page (g .state .root) (g .pool)) ∙ is) .entries)
@@ -410,7 +410,7 @@ module _ (fixed sep new : ℕ) (g : Grown) (par j h : ℕ) (r : List (ℕ × ℕ
   z₀ = withFresh (g .pool) (g .state)
 
   abbrev image : List ℕ
-  image = withParent fixed (withIsRoot 0 (page fixed (g .pool)))
+  image = withParent fixed (withIsRoot 0 (page (g .pool) fixed))
 
   abbrev z₁ : List ℕ
   z₁ = setPage z image z₀
@@ -419,9 +419,9 @@ module _ (fixed sep new : ℕ) (g : Grown) (par j h : ℕ) (r : List (ℕ × ℕ
   z₂ = relinked z z₁
 
   abbrev z₃ : List ℕ
-  z₃ = setPage fixed (topIn z sep new (page fixed z₂)) z₂
+  z₃ = setPage fixed (topIn z sep new (page z₂ fixed)) z₂
 
-  fixed-same : page fixed z₀ ≡ page fixed (g .pool)
+  fixed-same : page z₀ fixed ≡ page (g .pool) fixed
   fixed-same = fresh-other (g .pool) (g .state) (free .1) fixed (λ e. omega arith)
 
   pin-is : pinOf fixed g .pool ≡ linkedBoth z new fixed z₃
@@ -434,25 +434,25 @@ module _ (fixed sep new : ℕ) (g : Grown) (par j h : ℕ) (r : List (ℕ × ℕ
   z-there : There z z₀
   z-there = rw z₀-long (free .1)
 
-  fixed-long : length (page fixed (g .pool)) ≡ 4096
+  fixed-long : length (page (g .pool) fixed) ≡ 4096
   fixed-long = length-page fixed (g .pool) (omega (arith, free .1))
 
   image-long : length image ≡ 4096
   image-long = rw (length-putAt, length-putAt) fixed-long
 
-  image-bytes : AreBytes (withIsRoot 0 (page fixed (g .pool)))
-  image-bytes = bytes-field 1 (page fixed (g .pool)) 1 0 (bytes-page fixed (g .pool) B)
+  image-bytes : AreBytes (withIsRoot 0 (page (g .pool) fixed))
+  image-bytes = bytes-field 1 (page (g .pool) fixed) 1 0 (bytes-page fixed (g .pool) B)
 
   z₁-long : length z₁ ≡ length (g .pool)
   z₁-long = length-setPage z image z₀ z-there image-long ∙ z₀-long
 
   z₁-bytes : AreBytes z₁
-  z₁-bytes = bytes-set-page z image z₀ (bytes-field 4 (withIsRoot 0 (page fixed (g .pool))) 2 fixed image-bytes) (bytes-fresh (g .pool) (g .state) B)
+  z₁-bytes = bytes-set-page z image z₀ (bytes-field 4 (withIsRoot 0 (page (g .pool) fixed)) 2 fixed image-bytes) (bytes-fresh (g .pool) (g .state) B)
 
   said-image : said image ≡ setPar fixed (view (g .pool) fixed)
   said-image =
-      said-parent fixed (withIsRoot 0 (page fixed (g .pool))) (image-bytes, length-putAt 1 (page fixed (g .pool)) 1 0 ∙ fixed-long) fixed-low
-      ∙ ap (setPar fixed) (said-root 0 (page fixed (g .pool)) ∙ sym (view-page fixed (g .pool)))
+      said-parent fixed (withIsRoot 0 (page (g .pool) fixed)) (image-bytes, length-putAt 1 (page (g .pool) fixed) 1 0 ∙ fixed-long) fixed-low
+      ∙ ap (setPar fixed) (said-root 0 (page (g .pool) fixed) ∙ sym (view-page fixed (g .pool)))
 
   view-image : view z₁ ≡ withPage (view (g .pool)) z (setPar fixed (view (g .pool) fixed))
   view-image =
@@ -481,20 +481,20 @@ module _ (fixed sep new : ℕ) (g : Grown) (par j h : ℕ) (r : List (ℕ × ℕ
   fixed-there : There fixed z₂
   fixed-there = omega (arith, z₂-long, free .1)
 
-  pg-long : length (page fixed z₂) ≡ 4096
+  pg-long : length (page z₂ fixed) ≡ 4096
   pg-long = length-page fixed z₂ fixed-there
 
-  next-kept : nextLeaf (page fixed z₂) ≡ nextOf (view (g .pool) fixed)
+  next-kept : nextLeaf (page z₂ fixed) ≡ nextOf (view (g .pool) fixed)
   next-kept =
       relinked-is .next fixed
       ∙ ap nextLeaf (page-setPage-other z image z₀ z-there image-long fixed (λ e. omega arith) ∙ fixed-same)
-      ∙ (next-is-said (page fixed (g .pool)) (λ e. some (view-page fixed (g .pool) ∙ e)) ∙ ap nextOf (sym (view-page fixed (g .pool))))
+      ∙ (next-is-said (page (g .pool) fixed) (λ e. some (view-page fixed (g .pool) ∙ e)) ∙ ap nextOf (sym (view-page fixed (g .pool))))
 
-  in-long : length (topIn z sep new (page fixed z₂)) ≡ 4096
-  in-long = top-in-long z sep new (page fixed z₂) pg-long
+  in-long : length (topIn z sep new (page z₂ fixed)) ≡ 4096
+  in-long = top-in-long z sep new (page z₂ fixed) pg-long
 
   z₃-long : length z₃ ≡ length (g .pool)
-  z₃-long = length-setPage fixed (topIn z sep new (page fixed z₂)) z₂ fixed-there in-long ∙ z₂-long
+  z₃-long = length-setPage fixed (topIn z sep new (page z₂ fixed)) z₂ fixed-there in-long ∙ z₂-long
 
   pub view-pin : view (pinOf fixed g .pool)
       ≡ reparent fixed (g .state .used ∷ new ∷ [])
@@ -503,9 +503,9 @@ module _ (fixed sep new : ℕ) (g : Grown) (par j h : ℕ) (r : List (ℕ × ℕ
       ap view pin-is
       ∙ view-linkedBoth z new fixed z₃ (rw z₃-long (free .1)) (rw z₃-long new-there) fixed-low
       ∙ ap (reparent fixed (z ∷ new ∷ []))
-      (view-set fixed (topIn z sep new (page fixed z₂)) z₂ fixed-there in-long
+      (view-set fixed (topIn z sep new (page z₂ fixed)) z₂ fixed-there in-long
       ∙ ap₂ (λ (w : Pages) (x : Page). withPage w fixed x) view-moved
-      (said-top-in z sep new (page fixed z₂) pg-long z-low sep-low new-low ∙ ap (λ (k : ℕ). innerPage 0 k z ((sep, new) ∷ [])) next-kept))
+      (said-top-in z sep new (page z₂ fixed) pg-long z-low sep-low new-low ∙ ap (λ (k : ℕ). innerPage 0 k z ((sep, new) ∷ [])) next-kept))
 
   pub pinned-length : length (pinOf fixed g .pool) ≡ length (g .pool)
   pinned-length = ap (λ (s : List ℕ). length s) pin-is ∙ like-both z new fixed z₃ (rw z₃-long (free .1)) (rw z₃-long new-there) .long ∙ z₃-long
@@ -513,6 +513,6 @@ module _ (fixed sep new : ℕ) (g : Grown) (par j h : ℕ) (r : List (ℕ × ℕ
   pub pinned-bytes : AreBytes (pinOf fixed g .pool)
   pinned-bytes =
       let C : AreBytes z₂ = relinked-is .bytes z₁-bytes in
-      let H : AreBytes (withParent 0 (withNodeType 0 (pad 4096 (part 0 12 (page fixed z₂))))) =
-      bytes-field 4 _ 2 0 (bytes-field 1 _ 0 0 (bytes-pad 4096 _ (bytes-part 0 12 (page fixed z₂) (bytes-page fixed z₂ C)))) in
+      let H : AreBytes (withParent 0 (withNodeType 0 (pad 4096 (part 0 12 (page z₂ fixed))))) =
+      bytes-field 4 _ 2 0 (bytes-field 1 _ 0 0 (bytes-pad 4096 _ (bytes-part 0 12 (page z₂ fixed) (bytes-page fixed z₂ C)))) in
       subst AreBytes (sym pin-is) (bytes-linked new fixed _ (bytes-linked z fixed z₃ (bytes-set-page fixed _ z₂ (bytes-top z sep new _ H) C)))

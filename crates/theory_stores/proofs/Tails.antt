@@ -101,13 +101,13 @@ module _ (a : ℕ) (x y : List ℕ) (same : Tail a x y) where
   tail-row : (c : Cell) → a ≤ c .version .start → rowOf x c ≡ rowOf y c
   tail-row c h = rw (part-ext (c .version .start) (c .version .len) x y (same .long) (λ i l. same .each (c .version .start + i) (omega arith)))
 
-  tail-rows-of : (n at : ℕ) → a ≤ at → rowsOf n at x ≡ rowsOf n at y
+  tail-rows-of : (n at : ℕ) → a ≤ at → rowsOf x n at ≡ rowsOf y n at
   unfolding cellsOf
   tail-rows-of zero at h = refl
   tail-rows-of (suc n) at h = rw (tail-cell at h) (by-read (cellAt y at) refl (λ c l. tail-rows-of n (c .next) l))
     where
-      by-read : (r : CellRead) → cellAt y at ≡ r → ((c : Cell) → a ≤ c .next → rowsOf n (c .next) x ≡ rowsOf n (c .next) y)
-          → map (rowOf x) (onCell (λ c. c ∷ cellsOf n (c .next) x) (λ kind. []) r) ≡ map (rowOf y) (onCell (λ c. c ∷ cellsOf n (c .next) y) (λ kind. []) r)
+      by-read : (r : CellRead) → cellAt y at ≡ r → ((c : Cell) → a ≤ c .next → rowsOf x n (c .next) ≡ rowsOf y n (c .next))
+          → map (rowOf x) (onCell (λ c. c ∷ cellsOf x n (c .next)) (λ kind. []) r) ≡ map (rowOf y) (onCell (λ c. c ∷ cellsOf y n (c .next)) (λ kind. []) r)
       by-read (CellRead.Bad kind) e ih = refl
       by-read (CellRead.Got c) e ih =
           let p = cell-placed y at c e in
@@ -127,7 +127,7 @@ module _ (x y : List ℕ) (same : Tail 12 x y) where
   unfolding keyAt
   tail-key i = rw (tail-number 12 x y same 4 (16 + 8 * i) (omega arith))
 
-  tail-entries-from : (n i : ℕ) → entriesFrom i n x ≡ entriesFrom i n y
+  tail-entries-from : (n i : ℕ) → entriesFrom x i n ≡ entriesFrom y i n
   unfolding entriesFrom
   tail-entries-from zero i = refl
   tail-entries-from (suc n) i = rw (tail-key i, tail-child (i + 1), tail-entries-from n (i + 1))

@@ -30,7 +30,7 @@ use Rattle.theory_stores.proofs.Tails.{Tail, tail-field, tail-rows, tai
 
 -- ---- a page in the pool
 
-pub view-page : (p : ℕ) (s : List ℕ) → view s p ≡ said (page p s)
+pub view-page : (p : ℕ) (s : List ℕ) → view s p ≡ said (page s p)
 unfolding view
 view-page p s = refl
 
@@ -38,8 +38,8 @@ pub view-set : (p : ℕ) (x s : List ℕ) → p * 4096 + 4096 ≤ length s → l
 unfolding view withPage
 view-set p x s fits len = fun-ext (λ q. by-page q (eqb q p) refl)
   where
-    by-page : (q : ℕ) (b : Bool) → eqb q p ≡ b → said (page q (setPage p x s)) ≡ pick b (said x) (said (page q s))
-    by-page q true e = ap said (ap (λ (k : ℕ). page k (setPage p x s)) (eqb-true q p e) ∙ page-setPage p x s fits len)
+    by-page : (q : ℕ) (b : Bool) → eqb q p ≡ b → said (page (setPage p x s) q) ≡ pick b (said x) (said (page s q))
+    by-page q true e = ap said (ap (λ (k : ℕ). page (setPage p x s) k) (eqb-true q p e) ∙ page-setPage p x s fits len)
     by-page q false e = ap said (page-setPage-other p x s fits len q (eqb-false q p e))
 
 -- a page put in twice
@@ -104,8 +104,8 @@ said-next q pg par nxt rs len h e =
 
 pub view-linked : (c q : ℕ) (s : List ℕ) → There c s → q < 4294967296 → view (linked c q s) ≡ withPage (view s) c (setPar q (view s c))
 view-linked c q s h l =
-    view-set c (withParent q (page c s)) s h (length-putAt 4 (page c s) 2 q ∙ length-page c s h)
-    ∙ ap (withPage (view s) c) (parent-said q (page c s) (length-page c s h) l ∙ ap (setPar q) (sym (view-page c s)))
+    view-set c (withParent q (page s c)) s h (length-putAt 4 (page s c) 2 q ∙ length-page c s h)
+    ∙ ap (withPage (view s) c) (parent-said q (page s c) (length-page c s h) l ∙ ap (setPar q) (sym (view-page c s)))
 
 pub view-linkedBoth : (old new q : ℕ) (s : List ℕ) → There old s → There new s → q < 4294967296
     → view (linkedBoth old new q s) ≡ reparent q (old ∷ new ∷ []) (view s)

@@ -98,17 +98,17 @@ inner-says pg {par} {j} {h} {r} e = go (isLeafPage pg) (isInnerPage pg) refl e
 
 -- ---- its keys and children as lists
 
-pub entries-length : (i n : ℕ) (pg : List ℕ) → length (entriesFrom i n pg) ≡ n
+pub entries-length : (i n : ℕ) (pg : List ℕ) → length (entriesFrom pg i n) ≡ n
 unfolding entriesFrom
 entries-length i zero pg = refl
 entries-length i (suc n) pg = ap suc (entries-length (i + 1) n pg)
 
-pub entries-keys : (i n : ℕ) (pg : List ℕ) → map (λ (x : ℕ × ℕ). x .0) (entriesFrom i n pg) ≡ keysFrom i n pg
+pub entries-keys : (i n : ℕ) (pg : List ℕ) → map (λ (x : ℕ × ℕ). x .0) (entriesFrom pg i n) ≡ keysFrom pg i n
 unfolding entriesFrom keysFrom
 entries-keys i zero pg = refl
 entries-keys i (suc n) pg = ap (λ ks. keyAt pg i ∷ ks) (entries-keys (i + 1) n pg)
 
-pub entries-children : (i n : ℕ) (pg : List ℕ) → map (λ (x : ℕ × ℕ). x .1) (entriesFrom i n pg) ≡ childrenFrom (i + 1) n pg
+pub entries-children : (i n : ℕ) (pg : List ℕ) → map (λ (x : ℕ × ℕ). x .1) (entriesFrom pg i n) ≡ childrenFrom pg (i + 1) n
 unfolding entriesFrom childrenFrom
 entries-children i zero pg = refl
 entries-children i (suc n) pg = ap (λ cs. childAt pg (i + 1) ∷ cs) (entries-children (i + 1) n pg)

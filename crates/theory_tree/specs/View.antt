@@ -12,12 +12,12 @@ use Rattle.inner.specs.Inner.{keyAt, childAt, maxKeys}
 use Rattle.theory_tree.specs.Pages.{Page, leafPage, innerPage, noPage, Pages}
 
 -- n keys from the i-th on, each with the child right of it
-unfoldable pub entriesFrom : (i n : ℕ) → List ℕ → List (ℕ × ℕ)
-entriesFrom i zero pg = []
-entriesFrom i (suc n) pg = (keyAt pg i, childAt pg (i + 1)) ∷ entriesFrom (i + 1) n pg
+unfoldable pub entriesFrom : List ℕ → (i n : ℕ) → List (ℕ × ℕ)
+entriesFrom pg i zero = []
+entriesFrom pg i (suc n) = (keyAt pg i, childAt pg (i + 1)) ∷ entriesFrom pg (i + 1) n
 
 abbrev pub entriesOf : List ℕ → List (ℕ × ℕ)
-entriesOf pg = entriesFrom 0 (cellCount pg) pg
+entriesOf pg = entriesFrom pg 0 (cellCount pg)
 
 -- "Leaf cells readable"; "1 to 510 keys"
 abbrev pub isLeafPage : List ℕ → Bool
@@ -32,4 +32,4 @@ said pg =
     (pick (isInnerPage pg) (innerPage (parentOf pg) (nextLeaf pg) (childAt pg 0) (entriesOf pg)) noPage)
 
 unfoldable pub view : List ℕ → Pages
-view s p = said (page p s)
+view s p = said (page s p)

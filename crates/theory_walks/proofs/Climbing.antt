@@ -65,19 +65,19 @@ not-root (under q c) x l i d = by-high (high c) refl (not-root c (node q x))
 module _ (s : List ℕ) (used : ℕ) where
   -- the page above
   above-is : (p q par j : ℕ) (x : Shape) (lo hi : ℕ) → view s q ≡ innerPage par j (head x) (rest x) → Bounded lo hi x → q < used
-      → parentOf (page p s) ≡ q → List·Memᴰ p (roots x) → aboveOf s used p ≡ Above.Page q
+      → parentOf (page s p) ≡ q → List·Memᴰ p (roots x) → aboveOf s used p ≡ Above.Page q
   above-is p q par j x lo hi v b u e m =
       let a = judged-inner-of s q par j (head x) (rest x) v (seps-rise lo hi x b) in
-      let n : cellCount (page q s) ≡ length (rest x) = count-of s q par j (head x) (rest x) v in
-      let k : childrenFrom 0 (length (rest x) + 1) (page q s) ≡ roots x = rw n at (children-of s q par j (head x) (rest x) v) ∙ sym (roots-is x) in
+      let n : cellCount (page s q) ≡ length (rest x) = count-of s q par j (head x) (rest x) v in
+      let k : childrenFrom (page s q) 0 (length (rest x) + 1) ≡ roots x = rw n at (children-of s q par j (head x) (rest x) v) ∙ sym (roots-is x) in
       let len : length (roots x) ≡ suc (length (rest x)) = ap length (roots-is x) ∙ ap suc (length-map (rest x) (λ (y : ℕ × ℕ). y .1)) in
       let l : childPlace p (roots x) < length (roots x) = place-in p (roots x) m in
       sym (above-page used p s refl (sym e) u refl refl a (ap (childPlace p) (sym k)) (omega arith))
 
-  root-way : (m r p : ℕ) → p ≡ r → parentOf (page p s) ≡ 0 → climbOf s used r p m ≡ up (p ∷ [])
+  root-way : (m r p : ℕ) → p ≡ r → parentOf (page s p) ≡ 0 → climbOf s used r p m ≡ up (p ∷ [])
   unfolding climbOf
-  root-way zero r p w e = rw (eq-eqb p r w, eq-eqb (parentOf (page p s)) 0 e)
-  root-way (suc m) r p w e = rw (eq-eqb p r w, eq-eqb (parentOf (page p s)) 0 e)
+  root-way zero r p w e = rw (eq-eqb p r w, eq-eqb (parentOf (page s p)) 0 e)
+  root-way (suc m) r p w e = rw (eq-eqb p r w, eq-eqb (parentOf (page s p)) 0 e)
 
   way-up : (m root p q : ℕ) (qs : List ℕ) → (p ≡ root → ⊥) → aboveOf s used p ≡ Above.Page q → climbOf s used root q m ≡ up (q ∷ qs)
       → climbOf s used root p (suc m) ≡ up (p ∷ q ∷ qs)
@@ -85,7 +85,7 @@ module _ (s : List ℕ) (used : ℕ) where
   way-up m root p q qs z w ih = rw (ne-eqb p root z, w, ih)
 
   climb-run : (c : Ctx) (x : Shape) (m p : ℕ) → high c ≤ m → Holds (view s) 0 0 (plug c x) → IsTree (plug c x) → NoneTwice (pagesIn (plug c x))
-      → All (λ q. q < used) (pagesIn (plug c x)) → (hi : ℕ) → Bounded 0 hi (plug c x) → List·Memᴰ p (roots x) → parentOf (page p s) ≡ parC 0 c
+      → All (λ q. q < used) (pagesIn (plug c x)) → (hi : ℕ) → Bounded 0 hi (plug c x) → List·Memᴰ p (roots x) → parentOf (page s p) ≡ parC 0 c
       → climbOf s used (head (plug c x)) p m ≡ up (p ∷ path c)
   climb-run top x m p l h i d u hi b k e = at-root x i k m
     where

@@ -59,26 +59,26 @@ turn-is Route.First [] = refl
 turn-is Route.First (k ∷ ks) = refl
 
 -- the child that the page's bytes give
-child-there : (left : ℕ → Bool) (pg : List ℕ) (n i : ℕ) → childAt pg (i + firstWhere left (keysFrom i n pg)) ≡ childBy left (childAt pg i) (entriesFrom i n pg)
+child-there : (left : ℕ → Bool) (pg : List ℕ) (n i : ℕ) → childAt pg (i + firstWhere left (keysFrom pg i n)) ≡ childBy left (childAt pg i) (entriesFrom pg i n)
 unfolding firstWhere keysFrom entriesFrom
 child-there left pg zero i = rw add-zero
 child-there left pg (suc n) i = by-left (left (keyAt pg i)) (child-there left pg n (i + 1))
   where
-    by-left : (b : Bool) → childAt pg (i + 1 + firstWhere left (keysFrom (i + 1) n pg)) ≡ childBy left (childAt pg (i + 1)) (entriesFrom (i + 1) n pg)
-        → childAt pg (i + pick b 0 (suc (firstWhere left (keysFrom (i + 1) n pg)))) ≡ pick b (childAt pg i) (childBy left (childAt pg (i + 1)) (entriesFrom (i + 1) n pg))
+    by-left : (b : Bool) → childAt pg (i + 1 + firstWhere left (keysFrom pg (i + 1) n)) ≡ childBy left (childAt pg (i + 1)) (entriesFrom pg (i + 1) n)
+        → childAt pg (i + pick b 0 (suc (firstWhere left (keysFrom pg (i + 1) n)))) ≡ pick b (childAt pg i) (childBy left (childAt pg (i + 1)) (entriesFrom pg (i + 1) n))
     by-left true ih = rw add-zero
     by-left false ih =
-        let e : i + suc (firstWhere left (keysFrom (i + 1) n pg)) ≡ i + 1 + firstWhere left (keysFrom (i + 1) n pg) = omega arith in
+        let e : i + suc (firstWhere left (keysFrom pg (i + 1) n)) ≡ i + 1 + firstWhere left (keysFrom pg (i + 1) n) = omega arith in
         rw e ih
 
-pub child-of : (s : List ℕ) (p par j h : ℕ) (r : List (ℕ × ℕ)) (route : Route) → view s p ≡ innerPage par j h r → childOf route p (length r) s ≡ childBy (leftOn route) h r
+pub child-of : (s : List ℕ) (p par j h : ℕ) (r : List (ℕ × ℕ)) (route : Route) → view s p ≡ innerPage par j h r → childOf s p (length r) route ≡ childBy (leftOn route) h r
 child-of s p par j h r route v =
     let a = inner-at s p par j h r v in
-    let n : cellCount (page p s) ≡ length r = count-of s p par j h r v in
-    let z : 0 + firstWhere (leftOn route) (keysFrom 0 (length r) (page p s)) ≡ firstWhere (leftOn route) (keysFrom 0 (length r) (page p s)) = omega arith in
-    let e : entriesFrom 0 (length r) (page p s) ≡ r = rw n at (a .entries) in
-    ap (childAt (page p s)) (turn-is route (keysFrom 0 (length r) (page p s)) ∙ sym z)
-    ∙ (child-there (leftOn route) (page p s) (length r) 0 ∙ rw (e, a .child))
+    let n : cellCount (page s p) ≡ length r = count-of s p par j h r v in
+    let z : 0 + firstWhere (leftOn route) (keysFrom (page s p) 0 (length r)) ≡ firstWhere (leftOn route) (keysFrom (page s p) 0 (length r)) = omega arith in
+    let e : entriesFrom (page s p) 0 (length r) ≡ r = rw n at (a .entries) in
+    ap (childAt (page s p)) (turn-is route (keysFrom (page s p) 0 (length r)) ∙ sym z)
+    ∙ (child-there (leftOn route) (page s p) (length r) 0 ∙ rw (e, a .child))
 
 module _ (left : ℕ → Bool) where
   child-left : (h : ℕ) (r : List (ℕ × ℕ)) (k c : ℕ) (r′ : List (ℕ × ℕ)) → left k ≡ true → childBy left h (r ++ ((k, c) ∷ r′)) ≡ childBy left h r
@@ -102,7 +102,7 @@ descend-run s used route n m par nxt lo hi (node p f) h d b u l =
     let a = inner-at s p par (h .0) (head f) (rest f) v in
     let j = judged-inner-of s p par (h .0) (head f) (rest f) v (seps-rise lo hi f b) in
     let i = descend-run s used route (d .0) (m - 1) p nxt lo hi f (h .2) (d .2) b (u .1) (omega arith) in
-    let other : nodeType (page p s) ≡ 1 → ⊥ = λ t. let z : _≡_ {A = ℕ} 0 1 = sym (a .type) ∙ t in omega arith in
+    let other : nodeType (page s p) ≡ 1 → ⊥ = λ t. let z : _≡_ {A = ℕ} 0 1 = sym (a .type) ∙ t in omega arith in
     let child = child-of s p par (h .0) (head f) (rest f) route v in
     sym (way-on route used p s (u .0) refl refl other m (λ z. omega arith) refl j (sym child)) ∙ i
 descend-run s used route n m par nxt lo hi (pair a k g) h d b u l =

@@ -85,7 +85,7 @@ best-app v k (x ∷ xs) ys =
 -- the row that was found
 abbrev pub rowIn : List ℕ → Best → Option Row
 rowIn s Best.Nothing = none
-rowIn s (Best.At p c) = some (rowOf (page p s) c)
+rowIn s (Best.At p c) = some (rowOf (page s p) c)
 
 -- the cell c of page p, of the key and seen by v: its leaf in the tree and its place there; behind it in the chain v sees
 -- none of its key and creator
@@ -95,17 +95,17 @@ pub record Standing (v : Row → Bool) (key : ℕ) (s : List ℕ) (t : Shape) (p
   pub is : t ≡ plug ctx (leaf p rows)
   pub before : List Cell
   pub after : List Cell
-  pub cells-are : cells (page p s) ≡ before ++ (c ∷ after)
-  pub rows-are : rows ≡ map (rowOf (page p s)) (before ++ (c ∷ after))
-  pub of-key : ofKey key (rowOf (page p s) c) ≡ true
-  pub seen : v (rowOf (page p s) c) ≡ true
-  pub last : All (λ (z : Row). v z ≡ false) (arrivals key (c .version .creator) (map (rowOf (page p s)) after ++ postC ctx))
+  pub cells-are : cells (page s p) ≡ before ++ (c ∷ after)
+  pub rows-are : rows ≡ map (rowOf (page s p)) (before ++ (c ∷ after))
+  pub of-key : ofKey key (rowOf (page s p) c) ≡ true
+  pub seen : v (rowOf (page s p) c) ≡ true
+  pub last : All (λ (z : Row). v z ≡ false) (arrivals key (c .version .creator) (map (rowOf (page s p)) after ++ postC ctx))
 
 -- the chain is split there
 pub standing-chain : (v : Row → Bool) (key : ℕ) (s : List ℕ) (t : Shape) (p : ℕ) (c : Cell) (r : Standing v key s t p c)
-    → chain t ≡ (preC (r .ctx) ++ map (rowOf (page p s)) (r .before)) ++ (rowOf (page p s) c ∷ (map (rowOf (page p s)) (r .after) ++ postC (r .ctx)))
+    → chain t ≡ (preC (r .ctx) ++ map (rowOf (page s p)) (r .before)) ++ (rowOf (page s p) c ∷ (map (rowOf (page s p)) (r .after) ++ postC (r .ctx)))
 standing-chain v key s t p c r =
-    let g = rowOf (page p s) in
+    let g = rowOf (page s p) in
     let e : r .rows ≡ map g (r .before) ++ (g c ∷ map g (r .after)) = r .rows-are ∙ map-append g (r .before) (c ∷ r .after) in
     ap chain (r .is) ∙ (plug-chain (r .ctx) (leaf p (r .rows)) ∙ rw e (simp append-assoc))
 
@@ -131,7 +131,7 @@ module _ (sn : Snapshot) (st : ℕ → ℕ) (key : ℕ) where
   abbrev pub stepBest : Best → ℕ → List ℕ → Best
   stepBest b p pg = foldCells (newest p key sn st) b (cells pg)
 
-  says-best : (a : Best) (p : ℕ) (pg : List ℕ) (e : ℕ) → judgeLeaf p pg ≡ Judged.Ok e
+  says-best : (a : Best) (p : ℕ) (pg : List ℕ) (e : ℕ) → judgeLeaf pg p ≡ Judged.Ok e
       → lookBest key sn st a p pg ≡ pick (larger key (rows pg)) (stop (stepBest a p pg)) (go (stepBest a p pg))
   unfolding findLeaf
   says-best a p pg e j = rw (j, larger-is key pg) (by-end (foldCells (newest p key sn st) a (cells pg)) (larger key (rows pg)))
@@ -148,36 +148,36 @@ module _ (sn : Snapshot) (st : ℕ → ℕ) (key : ℕ) where
 
   -- one cell more
   newest-row : (s : List ℕ) (p : ℕ) (b : Best) (c : Cell)
-      → rowIn s (newest p key sn st b c) ≡ merge (when (ofKey key (rowOf (page p s) c) && seenBy (rowOf (page p s) c)) (rowOf (page p s) c)) (rowIn s b)
+      → rowIn s (newest p key sn st b c) ≡ merge (when (ofKey key (rowOf (page s p) c) && seenBy (rowOf (page s p) c)) (rowOf (page s p) c)) (rowIn s b)
   unfolding newest
   newest-row s p b c = by-test (eqb (c .key) key && visible sn st (c .version .creator) (c .version .stamp)) b
     where
-      by-less : (x : Bool) (q : ℕ) (o : Cell) → rowIn s (pick x (Best.At q o) (Best.At p c)) ≡ pick x (some (rowOf (page q s) o)) (some (rowOf (page p s) c))
+      by-less : (x : Bool) (q : ℕ) (o : Cell) → rowIn s (pick x (Best.At q o) (Best.At p c)) ≡ pick x (some (rowOf (page s q) o)) (some (rowOf (page s p) c))
       by-less true q o = refl
       by-less false q o = refl
 
-      by-test : (x : Bool) (b : Best) → rowIn s (pick x (later p b c) b) ≡ merge (when x (rowOf (page p s) c)) (rowIn s b)
+      by-test : (x : Bool) (b : Best) → rowIn s (pick x (later p b c) b) ≡ merge (when x (rowOf (page s p) c)) (rowIn s b)
       by-test true Best.Nothing = refl
       by-test true (Best.At q o) = by-less (ltb (c .version .creator) (o .version .creator)) q o
       by-test false b = refl
 
   fold-row : (s : List ℕ) (p : ℕ) (cs : List Cell) (b : Best)
-      → rowIn s (foldCells (newest p key sn st) b cs) ≡ merge (best seenBy key (map (rowOf (page p s)) cs)) (rowIn s b)
+      → rowIn s (foldCells (newest p key sn st) b cs) ≡ merge (best seenBy key (map (rowOf (page s p)) cs)) (rowIn s b)
   unfolding foldCells
   fold-row s p [] b = refl
   fold-row s p (c ∷ cs) b =
-      let r = rowOf (page p s) c in
+      let r = rowOf (page s p) c in
       fold-row s p cs (newest p key sn st b c)
-      ∙ (ap (merge (best seenBy key (map (rowOf (page p s)) cs))) (newest-row s p b c)
-      ∙ sym (merge-assoc (best seenBy key (map (rowOf (page p s)) cs)) (when (ofKey key r && seenBy r) r) (rowIn s b)))
+      ∙ (ap (merge (best seenBy key (map (rowOf (page s p)) cs))) (newest-row s p b c)
+      ∙ sym (merge-assoc (best seenBy key (map (rowOf (page s p)) cs)) (when (ofKey key r && seenBy r) r) (rowIn s b)))
 
   gather-row : (s : List ℕ) (used : ℕ) (ls : List Loc) (b : Best) → All (AtLeaf s used) ls
       → rowIn s (gather stepBest s b ls) ≡ merge (best seenBy key (flat (cellss ls))) (rowIn s b)
   gather-row s used [] b h = refl
   gather-row s used (l ∷ ls) b h =
-      let here : rowIn s (stepBest b (l .page) (page (l .page) s)) ≡ merge (best seenBy key (l .cells)) (rowIn s b) =
-      fold-row s (l .page) (cells (page (l .page) s)) b ∙ ap (λ (rs : List Row). merge (best seenBy key rs) (rowIn s b)) (h .0 .says .rows-are) in
-      gather-row s used ls (stepBest b (l .page) (page (l .page) s)) (h .1)
+      let here : rowIn s (stepBest b (l .page) (page s (l .page))) ≡ merge (best seenBy key (l .cells)) (rowIn s b) =
+      fold-row s (l .page) (cells (page s (l .page))) b ∙ ap (λ (rs : List Row). merge (best seenBy key rs) (rowIn s b)) (h .0 .says .rows-are) in
+      gather-row s used ls (stepBest b (l .page) (page s (l .page))) (h .1)
       ∙ (ap (merge (best seenBy key (flat (cellss ls)))) here
       ∙ (sym (merge-assoc (best seenBy key (flat (cellss ls))) (best seenBy key (l .cells)) (rowIn s b))
       ∙ ap (λ (o : Option Row). merge o (rowIn s b)) (sym (best-app seenBy key (l .cells) (flat (cellss ls))))))
@@ -231,9 +231,9 @@ module _ (sn : Snapshot) (st : ℕ → ℕ) (key : ℕ) where
 
   module _ (s : List ℕ) (used : ℕ) (t : Shape) where
     stands-here : (l : Loc) (ls : List Loc) (q : ℕ) (c : Cell) → InTree t l → AtLeaf s used l → postC (l .ctx) ≡ flat (cellss ls) ++ [] → q ≡ l .page
-        → InCells (page (l .page) s) c (cells (page (l .page) s)) → Less seenBy key (c .version .creator) (flat (cellss ls)) → Standing seenBy key s t q c
+        → InCells (page s (l .page)) c (cells (page s (l .page))) → Less seenBy key (c .version .creator) (flat (cellss ls)) → Standing seenBy key s t q c
     stands-here l ls q c e a z y i h =
-        let pg = page (l .page) s in
+        let pg = page s (l .page) in
         let n = c .version .creator in
         let back : Less seenBy key n (map (rowOf pg) (i .after) ++ postC (l .ctx)) =
         all-app (λ (r : Row). (ofKey key r && seenBy r) ≡ true → r .creator < n) (map (rowOf pg) (i .after)) (postC (l .ctx)) (i .less) (rw (z, append-nil) h) in
@@ -254,19 +254,19 @@ module _ (sn : Snapshot) (st : ℕ → ℕ) (key : ℕ) where
     leaves-chosen : (ls : List Loc) (b : Best) (q : ℕ) (c : Cell) → All (InTree t) ls → All (AtLeaf s used) ls → Trailed [] ls → gather stepBest s b ls ≡ Best.At q c
         → Stays b q c (flat (cellss ls)) ⊎ Standing seenBy key s t q c
     leaves-chosen [] b q c i a z e = inl (e, tt)
-    leaves-chosen (l ∷ ls) b q c i a z e = by-rest (leaves-chosen ls (stepBest b (l .page) (page (l .page) s)) q c (i .1) (a .1) (z .1) e)
+    leaves-chosen (l ∷ ls) b q c i a z e = by-rest (leaves-chosen ls (stepBest b (l .page) (page s (l .page))) q c (i .1) (a .1) (z .1) e)
       where
         by-cells : Less seenBy key (c .version .creator) (flat (cellss ls))
-            → Stays b q c (rows (page (l .page) s)) ⊎ ((q ≡ l .page) × InCells (page (l .page) s) c (cells (page (l .page) s)))
+            → Stays b q c (rows (page s (l .page))) ⊎ ((q ≡ l .page) × InCells (page s (l .page)) c (cells (page s (l .page))))
             → Stays b q c (l .cells ++ flat (cellss ls)) ⊎ Standing seenBy key s t q c
         by-cells h (inl w) =
             let n = c .version .creator in
             inl (w .0, all-app (λ (r : Row). (ofKey key r && seenBy r) ≡ true → r .creator < n) (l .cells) (flat (cellss ls)) (rw (a .0 .says .rows-are) at (w .1)) h)
         by-cells h (inr w) = inr (stands-here l ls q c (i .0) (a .0) (z .0) (w .0) (w .1) h)
 
-        by-rest : Stays (stepBest b (l .page) (page (l .page) s)) q c (flat (cellss ls)) ⊎ Standing seenBy key s t q c
+        by-rest : Stays (stepBest b (l .page) (page s (l .page))) q c (flat (cellss ls)) ⊎ Standing seenBy key s t q c
             → Stays b q c (l .cells ++ flat (cellss ls)) ⊎ Standing seenBy key s t q c
-        by-rest (inl w) = by-cells (w .1) (cells-chosen (l .page) (page (l .page) s) (cells (page (l .page) s)) b q c (w .0))
+        by-rest (inl w) = by-cells (w .1) (cells-chosen (l .page) (page s (l .page)) (cells (page s (l .page))) b q c (w .0))
         by-rest (inr w) = inr w
 
   -- ---- on a tree
@@ -323,7 +323,7 @@ module _ (claiming : Bool) (sn : Snapshot) (st : ℕ → ℕ) (seen key : ℕ) w
   abbrev pub stepTest : Bool → ℕ → List ℕ → Bool
   stepTest b p pg = foldCells (joined key sn st claiming seen) b (cells pg)
 
-  says-test : (a : Bool) (p : ℕ) (pg : List ℕ) (e : ℕ) → judgeLeaf p pg ≡ Judged.Ok e
+  says-test : (a : Bool) (p : ℕ) (pg : List ℕ) (e : ℕ) → judgeLeaf pg p ≡ Judged.Ok e
       → lookTest key sn st claiming seen a p pg ≡ pick (larger key (rows pg)) (stop (stepTest a p pg)) (go (stepTest a p pg))
   unfolding testLeaf
   says-test a p pg e j = rw (j, larger-is key pg) (by-end (foldCells (joined key sn st claiming seen) a (cells pg)) (larger key (rows pg)))

@@ -34,13 +34,13 @@ use Rattle.store.proofs.Tests.{and-both}
 
 -- ---- what a page of the pool says
 
-pub leaf-at : (s : List ℕ) (p par nxt : ℕ) (rs : List Row) → view s p ≡ leafPage par nxt rs → LeafSays (page p s) par nxt rs
+pub leaf-at : (s : List ℕ) (p par nxt : ℕ) (rs : List Row) → view s p ≡ leafPage par nxt rs → LeafSays (page s p) par nxt rs
 unfolding view
-leaf-at s p par nxt rs e = leaf-says (page p s) e
+leaf-at s p par nxt rs e = leaf-says (page s p) e
 
-pub inner-at : (s : List ℕ) (p par j h : ℕ) (r : List (ℕ × ℕ)) → view s p ≡ innerPage par j h r → InnerSays (page p s) par j h r
+pub inner-at : (s : List ℕ) (p par j h : ℕ) (r : List (ℕ × ℕ)) → view s p ≡ innerPage par j h r → InnerSays (page s p) par j h r
 unfolding view
-inner-at s p par j h r e = inner-says (page p s) e
+inner-at s p par j h r e = inner-says (page s p) e
 
 -- ---- leaves
 
@@ -62,21 +62,21 @@ rising-of pg k c (x ∷ xs) a o =
     (order-in k c (x .key) (x .version .creator) (a .0 .0) (a .0 .1), rising-of pg (x .key) (x .version .creator) xs (o .0) (o .1))
 
 -- cells that are all there, in order, are judged good
-cells-judged : (pg : List ℕ) (p k c n at : ℕ) → length (cellsOf n at pg) ≡ n → Rising k c (cellsOf n at pg)
-    → judgeCells p k c n at pg ≡ Judged.Ok (endOf at (cellsOf n at pg))
+cells-judged : (pg : List ℕ) (p k c n at : ℕ) → length (cellsOf pg n at) ≡ n → Rising k c (cellsOf pg n at)
+    → judgeCells pg p k c n at ≡ Judged.Ok (endOf at (cellsOf pg n at))
 unfolding judgeCells cellsOf endOf
 cells-judged pg p k c zero at e o = refl
 cells-judged pg p k c (suc n) at e o = by-read (cellAt pg at) refl (λ x. cells-judged pg p (x .key) (x .version .creator) n (x .next)) e o
   where
     by-read : (d : CellRead) → cellAt pg at ≡ d
-        → ((x : Cell) → length (cellsOf n (x .next) pg) ≡ n → Rising (x .key) (x .version .creator) (cellsOf n (x .next) pg)
-        → judgeCells p (x .key) (x .version .creator) n (x .next) pg ≡ Judged.Ok (endOf (x .next) (cellsOf n (x .next) pg)))
-        → length (onCell (λ x. x ∷ cellsOf n (x .next) pg) (λ kind. []) d) ≡ suc n → Rising k c (onCell (λ x. x ∷ cellsOf n (x .next) pg) (λ kind. []) d)
-        → onStep (λ x. judgeCells p (x .key) (x .version .creator) n (x .next) pg) (λ f. Judged.Bad f) (stepOf p k c at pg)
-        ≡ Judged.Ok (endOf at (onCell (λ x. x ∷ cellsOf n (x .next) pg) (λ kind. []) d))
+        → ((x : Cell) → length (cellsOf pg n (x .next)) ≡ n → Rising (x .key) (x .version .creator) (cellsOf pg n (x .next))
+        → judgeCells pg p (x .key) (x .version .creator) n (x .next) ≡ Judged.Ok (endOf (x .next) (cellsOf pg n (x .next))))
+        → length (onCell (λ x. x ∷ cellsOf pg n (x .next)) (λ kind. []) d) ≡ suc n → Rising k c (onCell (λ x. x ∷ cellsOf pg n (x .next)) (λ kind. []) d)
+        → onStep (λ x. judgeCells pg p (x .key) (x .version .creator) n (x .next)) (λ f. Judged.Bad f) (stepOf pg p k c at)
+        ≡ Judged.Ok (endOf at (onCell (λ x. x ∷ cellsOf pg n (x .next)) (λ kind. []) d))
     by-read (CellRead.Bad kind) q ih e o = absurd (let z : 0 ≡ suc n = e in omega arith)
     by-read (CellRead.Got x) q ih e o =
-        let m : length (cellsOf n (x .next) pg) ≡ n = (let z : suc (length (cellsOf n (x .next) pg)) ≡ suc n = e in omega arith) in
+        let m : length (cellsOf pg n (x .next)) ≡ n = (let z : suc (length (cellsOf pg n (x .next))) ≡ suc n = e in omega arith) in
         rw (← step-in pg p k c at (sym q) refl (sym (o .0)) refl) (ih x m (o .1))
 
 pub sorted-rising : (pg : List ℕ) → Sorted (rows pg) → Rising 0 0 (cells pg)
@@ -87,15 +87,15 @@ sorted-rising pg o = rising-of pg 0 0 (cells pg) (any (rows pg)) o
     any (r ∷ rs) = ((omega arith, λ e. omega arith), any rs)
 
 -- a leaf page whose rows are all there and sorted
-pub leaf-judged : (p : ℕ) (pg : List ℕ) → nodeType pg ≡ 1 → length (rows pg) ≡ cellCount pg → Sorted (rows pg) → (e : ℕ) × (judgeLeaf p pg ≡ Judged.Ok e)
+pub leaf-judged : (p : ℕ) (pg : List ℕ) → nodeType pg ≡ 1 → length (rows pg) ≡ cellCount pg → Sorted (rows pg) → (e : ℕ) × (judgeLeaf pg p ≡ Judged.Ok e)
 leaf-judged p pg t n o =
     let j = cells-judged pg p 0 0 (cellCount pg) 12 (sym (length-map (cells pg) (rowOf pg)) ∙ n) (sorted-rising pg o) in
     (endOf 12 (cells pg), sym (leaf-cells p pg t refl (sym j)))
 
-pub judged-leaf-of : (s : List ℕ) (p par nxt : ℕ) (rs : List Row) → view s p ≡ leafPage par nxt rs → Sorted rs → (e : ℕ) × (judgeLeaf p (page p s) ≡ Judged.Ok e)
+pub judged-leaf-of : (s : List ℕ) (p par nxt : ℕ) (rs : List Row) → view s p ≡ leafPage par nxt rs → Sorted rs → (e : ℕ) × (judgeLeaf (page s p) p ≡ Judged.Ok e)
 judged-leaf-of s p par nxt rs v o =
     let a = leaf-at s p par nxt rs v in
-    leaf-judged p (page p s) (a .type) (ap length (a .rows-are) ∙ a .count) (rw (a .rows-are) o)
+    leaf-judged p (page s p) (a .type) (ap length (a .rows-are) ∙ a .count) (rw (a .rows-are) o)
 
 -- ---- internal pages
 
@@ -129,17 +129,17 @@ pub seps-rise : (lo hi : ℕ) (g : Shape) → Bounded lo hi g → neverFalls 0 (
 seps-rise lo hi g b = falls-weak 0 lo (keysIn (rest g)) (omega arith) (seps-from lo hi g b)
 
 module _ (s : List ℕ) (p par j h : ℕ) (r : List (ℕ × ℕ)) (v : view s p ≡ innerPage par j h r) where
-  pub count-of : cellCount (page p s) ≡ length r
-  count-of = let a = inner-at s p par j h r v in sym (entries-length 0 (cellCount (page p s)) (page p s)) ∙ ap length (a .entries)
+  pub count-of : cellCount (page s p) ≡ length r
+  count-of = let a = inner-at s p par j h r v in sym (entries-length 0 (cellCount (page s p)) (page s p)) ∙ ap length (a .entries)
 
-  pub keys-of : keysOf (page p s) ≡ keysIn r
-  keys-of = let a = inner-at s p par j h r v in entries-of (page p s) ∙ ap keysIn (a .entries)
+  pub keys-of : keysOf (page s p) ≡ keysIn r
+  keys-of = let a = inner-at s p par j h r v in entries-of (page s p) ∙ ap keysIn (a .entries)
 
-  pub children-of : childrenOf (page p s) ≡ kids h r
-  children-of = let a = inner-at s p par j h r v in kids-of (page p s) ∙ rw (a .child, a .entries)
+  pub children-of : childrenOf (page s p) ≡ kids h r
+  children-of = let a = inner-at s p par j h r v in kids-of (page s p) ∙ rw (a .child, a .entries)
 
-  pub judged-inner-of : neverFalls 0 (keysIn r) ≡ true → judgeInner p (page p s) ≡ InnerJudged.Ok (length r)
+  pub judged-inner-of : neverFalls 0 (keysIn r) ≡ true → judgeInner (page s p) p ≡ InnerJudged.Ok (length r)
   judged-inner-of e =
       let a = inner-at s p par j h r v in
-      let rises : neverFalls 0 (keysFrom 0 (length r) (page p s)) ≡ true = rw (← count-of) (ap (neverFalls 0) keys-of ∙ e) in
-      sym (judge-ok p (page p s) (a .type) (sym count-of) (rw (← count-of) (a .low)) (rw (← count-of) (a .high)) refl rises)
+      let rises : neverFalls 0 (keysFrom (page s p) 0 (length r)) ≡ true = rw (← count-of) (ap (neverFalls 0) keys-of ∙ e) in
+      sym (judge-ok p (page s p) (a .type) (sym count-of) (rw (← count-of) (a .low)) (rw (← count-of) (a .high)) refl rises)

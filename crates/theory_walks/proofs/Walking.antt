@@ -34,10 +34,10 @@ use Rattle.theory_walks.proofs.Paging.{leaf-at, judged-leaf-of}
 
 -- a leaf with its context, as the pool has it
 pub record AtLeaf (s : List ℕ) (used : ℕ) (l : Loc) : Type 0 where
-  pub says : LeafSays (page (l .page) s) (parC 0 (l .ctx)) (nxtC 0 (l .ctx)) (l .cells)
+  pub says : LeafSays (page s (l .page)) (parC 0 (l .ctx)) (nxtC 0 (l .ctx)) (l .cells)
   pub in-use : l .page < used
   pub end : ℕ
-  pub judged : judgeLeaf (l .page) (page (l .page) s) ≡ Judged.Ok end
+  pub judged : judgeLeaf (page s (l .page)) (l .page) ≡ Judged.Ok end
 
 abbrev pub InTree : Shape → Loc → Type 0
 InTree t l = plug (l .ctx) (here l) ≡ t
@@ -184,19 +184,19 @@ around k lo hi t b =
 
 abbrev pub gather : {A : Type 0} → (A → ℕ → List ℕ → A) → List ℕ → A → List Loc → A
 gather step s a [] = a
-gather step s a (l ∷ ls) = gather step s (step a (l .page) (page (l .page) s)) ls
+gather step s a (l ∷ ls) = gather step s (step a (l .page) (page s (l .page))) ls
 
 pub gather-app : {A : Type 0} (step : A → ℕ → List ℕ → A) (s : List ℕ) (a : A) (xs ys : List Loc) → gather step s a (xs ++ ys) ≡ gather step s (gather step s a xs) ys
 gather-app step s a [] ys = refl
-gather-app step s a (l ∷ xs) ys = gather-app step s (step a (l .page) (page (l .page) s)) xs ys
+gather-app step s a (l ∷ xs) ys = gather-app step s (step a (l .page) (page s (l .page))) xs ys
 
 module _ {A : Type 0} (step : A → ℕ → List ℕ → A) (s : List ℕ) (used : ℕ) where
   -- a step that passes over leaves without the key gathers nothing from them
-  module _ (k : ℕ) (skips : (a : A) (p : ℕ) (pg : List ℕ) (e : ℕ) → judgeLeaf p pg ≡ Judged.Ok e → All (λ (r : Row). ofKey k r ≡ false) (rows pg) → step a p pg ≡ a) where
+  module _ (k : ℕ) (skips : (a : A) (p : ℕ) (pg : List ℕ) (e : ℕ) → judgeLeaf pg p ≡ Judged.Ok e → All (λ (r : Row). ofKey k r ≡ false) (rows pg) → step a p pg ≡ a) where
     gather-skip : (a : A) (ls : List Loc) → All (AtLeaf s used) ls → Without k ls → gather step s a ls ≡ a
     gather-skip a [] h o = refl
     gather-skip a (l ∷ ls) h o =
-        let e : step a (l .page) (page (l .page) s) ≡ a = skips a (l .page) (page (l .page) s) (h .0 .end) (h .0 .judged) (rw (h .0 .says .rows-are) (o .0)) in
+        let e : step a (l .page) (page s (l .page)) ≡ a = skips a (l .page) (page s (l .page)) (h .0 .end) (h .0 .judged) (rw (h .0 .says .rows-are) (o .0)) in
         rw e (gather-skip a ls (h .1) (o .1))
 
     pub gather-around : (t : Shape) → All (AtLeaf s used) (locs t top) → Around k t → (a : A)
@@ -213,13 +213,13 @@ module _ {A : Type 0} (step : A → ℕ → List ℕ → A) (s : List ℕ) (used
         ∙ (gather-app step s a m (r .left) ∙ gather-skip (gather step s a m) (r .left) gr (r .none-behind)))))
 
   -- a step that folds a leaf's rows folds those of the chain
-  module _ (g : A → List Row → A) (folds : (a : A) (p : ℕ) (pg : List ℕ) (e : ℕ) → judgeLeaf p pg ≡ Judged.Ok e → step a p pg ≡ g a (rows pg))
+  module _ (g : A → List Row → A) (folds : (a : A) (p : ℕ) (pg : List ℕ) (e : ℕ) → judgeLeaf pg p ≡ Judged.Ok e → step a p pg ≡ g a (rows pg))
       (none : (a : A) → g a [] ≡ a) (both : (a : A) (xs ys : List Row) → g a (xs ++ ys) ≡ g (g a xs) ys) where
     pub gather-rows : (a : A) (ls : List Loc) → All (AtLeaf s used) ls → gather step s a ls ≡ g a (flat (cellss ls))
     gather-rows a [] h = sym (none a)
     gather-rows a (l ∷ ls) h =
-        let e : step a (l .page) (page (l .page) s) ≡ g a (l .cells) = folds a (l .page) (page (l .page) s) (h .0 .end) (h .0 .judged) ∙ ap (g a) (h .0 .says .rows-are) in
-        gather-rows (step a (l .page) (page (l .page) s)) ls (h .1) ∙ (ap (λ (x : A). g x (flat (cellss ls))) e ∙ sym (both a (l .cells) (flat (cellss ls))))
+        let e : step a (l .page) (page s (l .page)) ≡ g a (l .cells) = folds a (l .page) (page s (l .page)) (h .0 .end) (h .0 .judged) ∙ ap (g a) (h .0 .says .rows-are) in
+        gather-rows (step a (l .page) (page s (l .page))) ls (h .1) ∙ (ap (λ (x : A). g x (flat (cellss ls))) e ∙ sym (both a (l .cells) (flat (cellss ls))))
 
     pub gather-chain : (t : Shape) → All (AtLeaf s used) (locs t top) → (a : A) → gather step s a (locs t top) ≡ g a (chain t)
     gather-chain t h a = gather-rows a (locs t top) h ∙ ap (g a) (locs-chain t top)
@@ -228,28 +228,28 @@ module _ {A : Type 0} (step : A → ℕ → List ℕ → A) (s : List ℕ) (used
 
 -- look answers by the leaf's rows whether the walk ends there, and gathers by step
 module _ {A : Type 0} (look : A → ℕ → List ℕ → Seen A) (ends : List Row → Bool) (step : A → ℕ → List ℕ → A)
-    (says : (a : A) (p : ℕ) (pg : List ℕ) (e : ℕ) → judgeLeaf p pg ≡ Judged.Ok e → look a p pg ≡ pick (ends (rows pg)) (stop (step a p pg)) (go (step a p pg)))
+    (says : (a : A) (p : ℕ) (pg : List ℕ) (e : ℕ) → judgeLeaf pg p ≡ Judged.Ok e → look a p pg ≡ pick (ends (rows pg)) (stop (step a p pg)) (go (step a p pg)))
     (s : List ℕ) (used : ℕ) where
   walk-list : (m : ℕ) (a : A) (l : Loc) (ls : List Loc) → length ls < m → All (AtLeaf s used) (l ∷ ls) → Linked 0 0 (l ∷ ls) → Nz ls
       → along s used (l .page) look m a ≡ ok (gather step s a (upTo ends (l ∷ ls)))
   walk-list zero a l ls n h k o = absurd (omega arith)
   walk-list (suc m) a l ls n h k o =
       by-end (ends (l .cells)) ls n (h .1) k o
-      (rw (h .0 .says .rows-are) at (says a (l .page) (page (l .page) s) (h .0 .end) (h .0 .judged)))
+      (rw (h .0 .says .rows-are) at (says a (l .page) (page s (l .page)) (h .0 .end) (h .0 .judged)))
       (walk-list m)
     where
       by-end : (x : Bool) (ls : List Loc) → length ls < suc m → All (AtLeaf s used) ls → Linked 0 0 (l ∷ ls) → Nz ls
-          → look a (l .page) (page (l .page) s) ≡ pick x (stop (step a (l .page) (page (l .page) s))) (go (step a (l .page) (page (l .page) s)))
+          → look a (l .page) (page s (l .page)) ≡ pick x (stop (step a (l .page) (page s (l .page)))) (go (step a (l .page) (page s (l .page))))
           → ((b : A) (l′ : Loc) (ls′ : List Loc) → length ls′ < m → All (AtLeaf s used) (l′ ∷ ls′) → Linked 0 0 (l′ ∷ ls′) → Nz ls′
           → along s used (l′ .page) look m b ≡ ok (gather step s b (upTo ends (l′ ∷ ls′))))
-          → along s used (l .page) look (suc m) a ≡ ok (gather step s (step a (l .page) (page (l .page) s)) (pick x [] (upTo ends ls)))
+          → along s used (l .page) look (suc m) a ≡ ok (gather step s (step a (l .page) (page s (l .page))) (pick x [] (upTo ends ls)))
       by-end true ls n g k o e ih = sym (along-last look used a (l .page) s (h .0 .in-use) refl (suc m) (omega arith) e)
       by-end false [] n g k o e ih = sym (along-end look used a (l .page) s (h .0 .in-use) refl (suc m) (omega arith) e refl (h .0 .says .next ∙ k .0))
       by-end false (l′ ∷ ls′) n g k o e ih =
           let i : suc m - 1 ≡ m = omega arith in
           let q : l′ .page ≡ _ = sym (h .0 .says .next ∙ k .0) in
           sym (along-on look used a (l .page) s (h .0 .in-use) refl (suc m) (omega arith) e q (o .0))
-          ∙ rw i (ih (step a (l .page) (page (l .page) s)) l′ ls′ (let z : suc (length ls′) < suc m = n in omega arith) g (k .1) (o .1))
+          ∙ rw i (ih (step a (l .page) (page s (l .page))) l′ ls′ (let z : suc (length ls′) < suc m = n in omega arith) g (k .1) (o .1))
 
   walk-from : (m p : ℕ) (a : A) (ls : List Loc) → length ls ≤ m → ((z : ℕ) → headPage ls z ≡ p) → All (AtLeaf s used) ls → Linked 0 0 ls → NzTail ls
       → along s used p look m a ≡ ok (gather step s a (upTo ends ls))
@@ -275,8 +275,8 @@ module _ {A : Type 0} (look : A → ℕ → List ℕ → Seen A) (ends : List Ro
 
 -- until a leaf holds a larger key, by a step that passes over leaves without the key: it gathers what all leaves give
 module _ {A : Type 0} (look : A → ℕ → List ℕ → Seen A) (key : ℕ) (step : A → ℕ → List ℕ → A)
-    (says : (a : A) (p : ℕ) (pg : List ℕ) (e : ℕ) → judgeLeaf p pg ≡ Judged.Ok e → look a p pg ≡ pick (larger key (rows pg)) (stop (step a p pg)) (go (step a p pg)))
-    (skips : (a : A) (p : ℕ) (pg : List ℕ) (e : ℕ) → judgeLeaf p pg ≡ Judged.Ok e → All (λ (r : Row). ofKey key r ≡ false) (rows pg) → step a p pg ≡ a)
+    (says : (a : A) (p : ℕ) (pg : List ℕ) (e : ℕ) → judgeLeaf pg p ≡ Judged.Ok e → look a p pg ≡ pick (larger key (rows pg)) (stop (step a p pg)) (go (step a p pg)))
+    (skips : (a : A) (p : ℕ) (pg : List ℕ) (e : ℕ) → judgeLeaf pg p ≡ Judged.Ok e → All (λ (r : Row). ofKey key r ≡ false) (rows pg) → step a p pg ≡ a)
     (s : List ℕ) (root used : ℕ) (t : Shape) (f : WellFormed (view s) root used t) where
   pub walk-key : (a : A) → along s used (leafOf key t) look used a ≡ ok (gather step s a (locs t top))
   walk-key a =
@@ -285,7 +285,7 @@ module _ {A : Type 0} (look : A → ℕ → List ℕ → Seen A) (key : ℕ) (st
 
 -- to the end of the chain
 module _ {A : Type 0} (look : A → ℕ → List ℕ → Seen A) (step : A → ℕ → List ℕ → A)
-    (says : (a : A) (p : ℕ) (pg : List ℕ) (e : ℕ) → judgeLeaf p pg ≡ Judged.Ok e → look a p pg ≡ go (step a p pg))
+    (says : (a : A) (p : ℕ) (pg : List ℕ) (e : ℕ) → judgeLeaf pg p ≡ Judged.Ok e → look a p pg ≡ go (step a p pg))
     (s : List ℕ) (root used : ℕ) (t : Shape) (f : WellFormed (view s) root used t) where
   pub walk-all : (a : A) → along s used (first t) look used a ≡ ok (gather step s a (locs t top))
   walk-all a = walk-first look (λ rs. false) step says s used root t f a ∙ ap (λ (ls : List Loc). ok (gather step s a ls)) (up-to-end (locs t top))

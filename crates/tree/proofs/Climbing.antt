@@ -33,12 +33,12 @@ module _ (used p q : ℕ) (s : List ℕ) where
   unfolding aboveFrom
   from-unused h e = rw (le-ltb q used h, e)
 
-  module _ {pg : List ℕ} {r : InnerJudged} (h : q < used) (here : pg ≡ page q s) (judged : r ≡ judgeInner q pg) where
+  module _ {pg : List ℕ} {r : InnerJudged} (h : q < used) (here : pg ≡ page s q) (judged : r ≡ judgeInner pg q) where
     from-bad : {f : Fault} → r ≡ InnerJudged.Bad f → Above.Bad f ≡ aboveFrom s used p q
     unfolding aboveFrom
     from-bad e = rw (lt-ltb q used h, ← here, sym judged ∙ e)
 
-    module _ {n i : ℕ} (e : r ≡ InnerJudged.Ok n) (place : i ≡ childPlace p (childrenFrom 0 (n + 1) pg)) where
+    module _ {n i : ℕ} (e : r ≡ InnerJudged.Ok n) (place : i ≡ childPlace p (childrenFrom pg 0 (n + 1))) where
       from-found : i ≤ n → Above.Page q ≡ aboveFrom s used p q
       unfolding aboveFrom
       from-found l = rw (lt-ltb q used h, ← here, sym judged ∙ e, ← place, lt-ltb i (n + 1) (omega arith))
@@ -47,18 +47,18 @@ module _ (used p q : ℕ) (s : List ℕ) where
       unfolding aboveFrom
       from-other l u = rw (lt-ltb q used h, ← here, sym judged ∙ e, ← place, le-ltb i (n + 1) (omega arith), u)
 
-module _ (used p : ℕ) (s : List ℕ) {pg₀ : List ℕ} {q : ℕ} (low : pg₀ ≡ page p s) (parent : q ≡ parentOf pg₀) where
+module _ (used p : ℕ) (s : List ℕ) {pg₀ : List ℕ} {q : ℕ} (low : pg₀ ≡ page s p) (parent : q ≡ parentOf pg₀) where
   from-parent : aboveFrom s used p q ≡ aboveOf s used p
   from-parent = ap (λ (x : ℕ). aboveFrom s used p x) (parent ∙ ap parentOf low)
 
   pub above-unused : {f : Fault} → used ≤ q → f ≡ structural q → Above.Bad f ≡ aboveOf s used p
   above-unused h e = from-unused used p q s h e ∙ from-parent
 
-  module _ {pg : List ℕ} {r : InnerJudged} (h : q < used) (here : pg ≡ page q s) (judged : r ≡ judgeInner q pg) where
+  module _ {pg : List ℕ} {r : InnerJudged} (h : q < used) (here : pg ≡ page s q) (judged : r ≡ judgeInner pg q) where
     pub above-bad : {f : Fault} → r ≡ InnerJudged.Bad f → Above.Bad f ≡ aboveOf s used p
     above-bad e = from-bad used p q s h here judged e ∙ from-parent
 
-    module _ {n i : ℕ} (e : r ≡ InnerJudged.Ok n) (place : i ≡ childPlace p (childrenFrom 0 (n + 1) pg)) where
+    module _ {n i : ℕ} (e : r ≡ InnerJudged.Ok n) (place : i ≡ childPlace p (childrenFrom pg 0 (n + 1))) where
       pub above-page : i ≤ n → Above.Page q ≡ aboveOf s used p
       above-page l = from-found used p q s h here judged e place l ∙ from-parent
 
@@ -67,12 +67,12 @@ module _ (used p : ℕ) (s : List ℕ) {pg₀ : List ℕ} {q : ℕ} (low : pg₀
 
 -- ---- at the root
 
-module _ (p : ℕ) (path : Path) (s : List ℕ) {pg : List ℕ} {q : ℕ} (here : pg ≡ page p s) (parent : q ≡ parentOf pg) where
-  pub top-root : q ≡ 0 → arrived path ≡ atRoot p path s
-  top-root e = rw (eq-eqb (parentOf (page p s)) 0 (rw (parent, here) at e))
+module _ (p : ℕ) (path : Path) (s : List ℕ) {pg : List ℕ} {q : ℕ} (here : pg ≡ page s p) (parent : q ≡ parentOf pg) where
+  pub top-root : q ≡ 0 → arrived path ≡ atRoot s p path
+  top-root e = rw (eq-eqb (parentOf (page s p)) 0 (rw (parent, here) at e))
 
-  pub top-lost : {f : Fault} {r : Climbed} → (q ≡ 0 → ⊥) → f ≡ structural p → r ≡ lost f → r ≡ atRoot p path s
-  top-lost z e u = u ∙ rw (e, ne-eqb (parentOf (page p s)) 0 (λ d. z (parent ∙ rw here d)))
+  pub top-lost : {f : Fault} {r : Climbed} → (q ≡ 0 → ⊥) → f ≡ structural p → r ≡ lost f → r ≡ atRoot s p path
+  top-lost z e u = u ∙ rw (e, ne-eqb (parentOf (page s p)) 0 (λ d. z (parent ∙ rw here d)))
 
 -- ---- the climb that collects
 
@@ -81,12 +81,12 @@ stepPath path p = record { pages = set (path .pages) (path .len) p; len = path .
 
 -- from page p, which path does not hold yet, with k more levels above it at most
 unfoldable pub climbFrom : (k : ℕ) → (used root p : ℕ) → Path → List ℕ → Climbed
-climbFrom zero used root p path s = pick (eqb p root) (atRoot p (stepPath path p) s) (lost (structural p))
+climbFrom zero used root p path s = pick (eqb p root) (atRoot s p (stepPath path p)) (lost (structural p))
 climbFrom (suc k) used root p path s =
-    pick (eqb p root) (atRoot p (stepPath path p) s) (onAbove (λ q. climbFrom k used root q (stepPath path p) s) (λ f. lost f) (aboveOf s used p))
+    pick (eqb p root) (atRoot s p (stepPath path p)) (onAbove (λ q. climbFrom k used root q (stepPath path p) s) (λ f. lost f) (aboveOf s used p))
 
 module _ (used root p : ℕ) (path : Path) (s : List ℕ) where
-  pub climb-root : (k : ℕ) {r : Climbed} → p ≡ root → r ≡ atRoot p (stepPath path p) s → r ≡ climbFrom k used root p path s
+  pub climb-root : (k : ℕ) {r : Climbed} → p ≡ root → r ≡ atRoot s p (stepPath path p) → r ≡ climbFrom k used root p path s
   unfolding climbFrom
   climb-root zero h e = e ∙ rw (eq-eqb p root h)
   climb-root (suc k) h e = e ∙ rw (eq-eqb p root h)
@@ -128,8 +128,8 @@ path-step xs p h =
     let n : 4 - (length xs + 1) ≡ 3 - length xs = omega arith in
     rw (l, m, n, set-append-seam xs 0 (zeros (3 - length xs)) p, append-snoc xs p (zeros (3 - length xs)))
 
-root-is : (p : ℕ) (xs : List ℕ) (s : List ℕ) → length xs < 4 → atRoot p (stepPath (pathOf xs) p) s ≡ climbed (after xs (rootWay s p))
-root-is p xs s h = rw (path-step xs p h) (by-parent (eqb (parentOf (page p s)) 0))
+root-is : (p : ℕ) (xs : List ℕ) (s : List ℕ) → length xs < 4 → atRoot s p (stepPath (pathOf xs) p) ≡ climbed (after xs (rootWay s p))
+root-is p xs s h = rw (path-step xs p h) (by-parent (eqb (parentOf (page s p)) 0))
   where
     by-parent : (b : Bool) → pick b (arrived (pathOf (xs ++ (p ∷ [])))) (lost (structural p)) ≡ climbed (after xs (pick b (up (p ∷ [])) (astray (structural p))))
     by-parent true = refl
@@ -139,7 +139,7 @@ from-is : (k used root p : ℕ) (xs : List ℕ) (s : List ℕ) → length xs + k
 unfolding climbFrom climbOf
 from-is zero used root p xs s h = by-root (eqb p root)
   where
-    by-root : (b : Bool) → pick b (atRoot p (stepPath (pathOf xs) p) s) (lost (structural p)) ≡ climbed (after xs (pick b (rootWay s p) (astray (structural p))))
+    by-root : (b : Bool) → pick b (atRoot s p (stepPath (pathOf xs) p)) (lost (structural p)) ≡ climbed (after xs (pick b (rootWay s p) (astray (structural p))))
     by-root true = root-is p xs s (omega arith)
     by-root false = refl
 from-is (suc k) used root p xs s h =
@@ -151,7 +151,7 @@ from-is (suc k) used root p xs s h =
     (eqb p root) (aboveOf s used p)
   where
     by-root : ((q : ℕ) → climbFrom k used root q (stepPath (pathOf xs) p) s ≡ climbed (after xs (wayFrom p (climbOf s used root q k)))) → (b : Bool) (a : Above)
-        → pick b (atRoot p (stepPath (pathOf xs) p) s) (onAbove (λ q. climbFrom k used root q (stepPath (pathOf xs) p) s) (λ f. lost f) a)
+        → pick b (atRoot s p (stepPath (pathOf xs) p)) (onAbove (λ q. climbFrom k used root q (stepPath (pathOf xs) p) s) (λ f. lost f) a)
         ≡ climbed (after xs (pick b (rootWay s p) (onAbove (λ q. wayFrom p (climbOf s used root q k)) (λ f. astray f) a)))
     by-root ih true a = root-is p xs s (omega arith)
     by-root ih false (Above.Page q) = ih q
@@ -169,54 +169,54 @@ climb-is used root p s = from-is 3 used root p [] s (omega arith) ∙ ap climbed
 
 -- q, above p: p names it, it is in use and judged, and holds p
 pub record Held (used p q : ℕ) (s : List ℕ) : Type 0 where
-  pub named : parentOf (page p s) ≡ q
+  pub named : parentOf (page s p) ≡ q
   pub in-use : q < used
   pub keys : ℕ
-  pub judged : judgeInner q (page q s) ≡ InnerJudged.Ok keys
-  pub place : childPlace p (childrenFrom 0 (keys + 1) (page q s)) ≤ keys
+  pub judged : judgeInner (page s q) q ≡ InnerJudged.Ok keys
+  pub place : childPlace p (childrenFrom (page s q) 0 (keys + 1)) ≤ keys
 
 -- what the step to the page above says
 pub held : (used p : ℕ) (s : List ℕ) {q : ℕ} → aboveOf s used p ≡ Above.Page q → Held used p q s
 unfolding aboveFrom
-held used p s {q} e = by-use (parentOf (page p s)) refl (ltb (parentOf (page p s)) used) refl e
+held used p s {q} e = by-use (parentOf (page s p)) refl (ltb (parentOf (page s p)) used) refl e
   where
-    by-place : (t n : ℕ) → parentOf (page p s) ≡ t → t < used → judgeInner t (page t s) ≡ InnerJudged.Ok n → (b : Bool)
-        → ltb (childPlace p (childrenFrom 0 (n + 1) (page t s))) (n + 1) ≡ b → pick b (Above.Page t) (Above.Bad (structural t)) ≡ Above.Page q → Held used p q s
+    by-place : (t n : ℕ) → parentOf (page s p) ≡ t → t < used → judgeInner (page s t) t ≡ InnerJudged.Ok n → (b : Bool)
+        → ltb (childPlace p (childrenFrom (page s t) 0 (n + 1))) (n + 1) ≡ b → pick b (Above.Page t) (Above.Bad (structural t)) ≡ Above.Page q → Held used p q s
     by-place t n z h j true l u =
         let w : t ≡ q = cc in
-        let i = ltb-true (childPlace p (childrenFrom 0 (n + 1) (page t s))) (n + 1) l in
+        let i = ltb-true (childPlace p (childrenFrom (page s t) 0 (n + 1))) (n + 1) l in
         subst (λ (x : ℕ). Held used p x s) w (record { named = z; in-use = h; keys = n; judged = j; place = omega arith })
     by-place t n z h j false l u = absurd (let z : _≡_ {A = ℕ} 0 1 = cc in omega arith)
 
-    by-judged : (t : ℕ) → parentOf (page p s) ≡ t → t < used → (r : InnerJudged) → judgeInner t (page t s) ≡ r
-        → onInner (λ n. pick (ltb (childPlace p (childrenFrom 0 (n + 1) (page t s))) (n + 1)) (Above.Page t) (Above.Bad (structural t))) (λ f. Above.Bad f) r ≡ Above.Page q
+    by-judged : (t : ℕ) → parentOf (page s p) ≡ t → t < used → (r : InnerJudged) → judgeInner (page s t) t ≡ r
+        → onInner (λ n. pick (ltb (childPlace p (childrenFrom (page s t) 0 (n + 1))) (n + 1)) (Above.Page t) (Above.Bad (structural t))) (λ f. Above.Bad f) r ≡ Above.Page q
         → Held used p q s
-    by-judged t z h (InnerJudged.Ok n) j u = by-place t n z h j (ltb (childPlace p (childrenFrom 0 (n + 1) (page t s))) (n + 1)) refl u
+    by-judged t z h (InnerJudged.Ok n) j u = by-place t n z h j (ltb (childPlace p (childrenFrom (page s t) 0 (n + 1))) (n + 1)) refl u
     by-judged t z h (InnerJudged.Bad f) j u = absurd (let z : _≡_ {A = ℕ} 0 1 = cc in omega arith)
 
-    by-use : (t : ℕ) → parentOf (page p s) ≡ t → (b : Bool) → ltb t used ≡ b
+    by-use : (t : ℕ) → parentOf (page s p) ≡ t → (b : Bool) → ltb t used ≡ b
         → pick b
-        (onInner (λ n. pick (ltb (childPlace p (childrenFrom 0 (n + 1) (page t s))) (n + 1)) (Above.Page t) (Above.Bad (structural t))) (λ f. Above.Bad f) (judgeInner t (page t s)))
+        (onInner (λ n. pick (ltb (childPlace p (childrenFrom (page s t) 0 (n + 1))) (n + 1)) (Above.Page t) (Above.Bad (structural t))) (λ f. Above.Bad f) (judgeInner (page s t) t))
         (Above.Bad (structural t))
         ≡ Above.Page q
         → Held used p q s
-    by-use t z true l u = by-judged t z (ltb-true t used l) (judgeInner t (page t s)) refl u
+    by-use t z true l u = by-judged t z (ltb-true t used l) (judgeInner (page s t) t) refl u
     by-use t z false l u = absurd (let z : _≡_ {A = ℕ} 0 1 = cc in omega arith)
 
-place-child : (child n i j : ℕ) (pg : List ℕ) → j ≡ i + childPlace child (childrenFrom i n pg) → childPlace child (childrenFrom i n pg) < n → childAt pg j ≡ child
+place-child : (child n i j : ℕ) (pg : List ℕ) → j ≡ i + childPlace child (childrenFrom pg i n) → childPlace child (childrenFrom pg i n) < n → childAt pg j ≡ child
 unfolding childrenFrom firstWhere
 place-child child zero i j pg e h = absurd (omega arith)
 place-child child (suc n) i j pg e h = by-test (eqb (childAt pg i) child) refl (λ k l. place-child child n (i + 1) j pg k l) e h
   where
     by-test : (b : Bool) → eqb (childAt pg i) child ≡ b
-        → (j ≡ i + 1 + childPlace child (childrenFrom (i + 1) n pg) → childPlace child (childrenFrom (i + 1) n pg) < n → childAt pg j ≡ child)
-        → j ≡ i + pick b 0 (suc (childPlace child (childrenFrom (i + 1) n pg))) → pick b 0 (suc (childPlace child (childrenFrom (i + 1) n pg))) < suc n → childAt pg j ≡ child
+        → (j ≡ i + 1 + childPlace child (childrenFrom pg (i + 1) n) → childPlace child (childrenFrom pg (i + 1) n) < n → childAt pg j ≡ child)
+        → j ≡ i + pick b 0 (suc (childPlace child (childrenFrom pg (i + 1) n))) → pick b 0 (suc (childPlace child (childrenFrom pg (i + 1) n))) < suc n → childAt pg j ≡ child
     by-test true q ih u l = let w : j ≡ i = omega arith in rw w (eqb-true (childAt pg i) child q)
     by-test false q ih u l = ih (omega arith) (omega arith)
 
 -- the pages above p, one after another, up to the root
 abbrev pub Rises : (used root p : ℕ) → (s above : List ℕ) → Type 0
-Rises used root p s [] = (p ≡ root) × (parentOf (page p s) ≡ 0)
+Rises used root p s [] = (p ≡ root) × (parentOf (page s p) ≡ 0)
 Rises used root p s (q ∷ qs) = (p ≡ root → ⊥) × Held used p q s × Rises used root q s qs
 
 pub record Risen (k used root p : ℕ) (s ps : List ℕ) : Type 0 where
@@ -227,10 +227,10 @@ pub record Risen (k used root p : ℕ) (s ps : List ℕ) : Type 0 where
 
 module _ (used root : ℕ) (s : List ℕ) where
   root-risen : (k p : ℕ) {ps : List ℕ} → p ≡ root → rootWay s p ≡ up ps → Risen k used root p s ps
-  root-risen k p {ps} h e = by-parent (eqb (parentOf (page p s)) 0) refl e
+  root-risen k p {ps} h e = by-parent (eqb (parentOf (page s p)) 0) refl e
     where
-      by-parent : (b : Bool) → eqb (parentOf (page p s)) 0 ≡ b → pick b (up (p ∷ [])) (astray (structural p)) ≡ up ps → Risen k used root p s ps
-      by-parent true q u = record { above = []; is = cc; few = omega arith; rises = (h, eqb-true (parentOf (page p s)) 0 q) }
+      by-parent : (b : Bool) → eqb (parentOf (page s p)) 0 ≡ b → pick b (up (p ∷ [])) (astray (structural p)) ≡ up ps → Risen k used root p s ps
+      by-parent true q u = record { above = []; is = cc; few = omega arith; rises = (h, eqb-true (parentOf (page s p)) 0 q) }
       by-parent false q u = absurd (let z : _≡_ {A = ℕ} 0 1 = cc in omega arith)
 
   -- what a climb that came to the root went through
@@ -271,7 +271,7 @@ module _ (used root : ℕ) (s : List ℕ) where
   rises-held p (q ∷ qs) r zero b = r .1
   rises-held p (q ∷ qs) r (suc i) b = rises-held q qs (r .2) i (omega arith)
 
-  rises-top : (p : ℕ) (l : List ℕ) → Rises used root p s l → (getD (p ∷ l) (length l) 0 ≡ root) × (parentOf (page root s) ≡ 0)
+  rises-top : (p : ℕ) (l : List ℕ) → Rises used root p s l → (getD (p ∷ l) (length l) 0 ≡ root) × (parentOf (page s root) ≡ 0)
   rises-top p [] r = (r .0, rw (r .0) at (r .1))
   rises-top p (q ∷ qs) r = rises-top q qs (r .2)
 
@@ -303,7 +303,7 @@ pub record PathIs (used root p : ℕ) (s ps : List ℕ) : Type 0 where
   pub four : length ps ≤ 4
   pub first : getD ps 0 0 ≡ p
   pub last : getD ps (length ps - 1) 0 ≡ root
-  pub top : parentOf (page root s) ≡ 0
+  pub top : parentOf (page s root) ≡ 0
   pub in-use : (i : ℕ) → i < length ps → getD ps i 0 < used
   pub held-by : (i : ℕ) → i + 1 < length ps → Held used (getD ps i 0) (getD ps (i + 1) 0) s
   pub apart : (i j : ℕ) → i < j → j < length ps → getD ps j 0 ≡ getD ps i 0 → ⊥

@@ -93,21 +93,21 @@ pigeonhole (suc n) l b d =
 
 module _ {A : Type 0} (look : A → ℕ → List ℕ → Seen A) (used : ℕ) (s : List ℕ) where
   abbrev next : ℕ → ℕ
-  next p = nextLeaf (page p s)
+  next p = nextLeaf (page s p)
 
   -- the page is not in use; or the walk ends there; or it goes on
   data View (a : A) (p : ℕ) : Type 0 where
     out : used ≤ p → ((m : ℕ) → along s used p look (suc m) a ≡ ill (structural p)) → ((m : ℕ) → meets s used p look (suc m) a ≡ []) → View a p
-    last : (t : Told A) → p < used → (turn (look a p (page p s)) ≡ 1 → (next p ≡ 0 → ⊥) → ⊥) → ((m : ℕ) → along s used p look (suc m) a ≡ t)
+    last : (t : Told A) → p < used → (turn (look a p (page s p)) ≡ 1 → (next p ≡ 0 → ⊥) → ⊥) → ((m : ℕ) → along s used p look (suc m) a ≡ t)
         → ((m : ℕ) → meets s used p look (suc m) a ≡ p ∷ []) → View a p
-    on : (b : A) → p < used → turn (look a p (page p s)) ≡ 1 → (next p ≡ 0 → ⊥) → ((m : ℕ) → along s used p look (suc m) a ≡ along s used (next p) look m b)
+    on : (b : A) → p < used → turn (look a p (page s p)) ≡ 1 → (next p ≡ 0 → ⊥) → ((m : ℕ) → along s used p look (suc m) a ≡ along s used (next p) look m b)
         → ((m : ℕ) → meets s used p look (suc m) a ≡ p ∷ meets s used (next p) look m b) → View a p
 
   view : (a : A) (p : ℕ) → View a p
   unfolding along meets
-  view a p = by-tests (ltb p used) refl (look a p (page p s)) refl (eqb (next p) 0) refl
+  view a p = by-tests (ltb p used) refl (look a p (page s p)) refl (eqb (next p) 0) refl
     where
-      by-tests : (t : Bool) → ltb p used ≡ t → (r : Seen A) → look a p (page p s) ≡ r → (z : Bool) → eqb (next p) 0 ≡ z → View a p
+      by-tests : (t : Bool) → ltb p used ≡ t → (r : Seen A) → look a p (page s p) ≡ r → (z : Bool) → eqb (next p) 0 ≡ z → View a p
       by-tests false l r q z e = out (ltb-false p used l) (λ m. rw l) (λ m. rw l)
       by-tests true l (stop b) q z e = last (ok b) (ltb-true p used l) (λ t n. absurd (let z : _≡_ {A = ℕ} 0 1 = cc in omega arith)) (λ m. rw (l, q)) (λ m. rw (l, q))
       by-tests true l (broken f) q z e = last (ill f) (ltb-true p used l) (λ t n. absurd (let z : _≡_ {A = ℕ} 1 2 = cc in omega arith)) (λ m. rw (l, q)) (λ m. rw (l, q))
@@ -154,24 +154,24 @@ module _ {A : Type 0} (look : A → ℕ → List ℕ → Seen A) (steady : Stead
   -- whatever was gathered, the walk goes on from p
   record Goes (p : ℕ) : Type 0 where
     in-use : p < used
-    turns : (a : A) → turn (look a p (page p s)) ≡ 1
-    more : nextLeaf (page p s) ≡ 0 → ⊥
+    turns : (a : A) → turn (look a p (page s p)) ≡ 1
+    more : nextLeaf (page s p) ≡ 0 → ⊥
 
   -- it goes on at least k times
   abbrev Runs : ℕ → ℕ → Type 0
   Runs zero p = Unit
-  Runs (suc k) p = Goes p × Runs k (nextLeaf (page p s))
+  Runs (suc k) p = Goes p × Runs k (nextLeaf (page s p))
 
   runs-less : (k p : ℕ) → Runs (suc k) p → Runs k p
   runs-less zero p r = tt
-  runs-less (suc k) p r = (r .0, runs-less k (nextLeaf (page p s)) (r .1))
+  runs-less (suc k) p r = (r .0, runs-less k (nextLeaf (page s p)) (r .1))
 
   runs-ill : (k : ℕ) (a : A) (p : ℕ) → Runs k p → Ill (along s used p look k a)
   unfolding along
   runs-ill zero a p r = record { fault = structural p; is = refl }
-  runs-ill (suc k) a p r = by-view (view look used s a p) (λ b. runs-ill k b (nextLeaf (page p s)) (r .1))
+  runs-ill (suc k) a p r = by-view (view look used s a p) (λ b. runs-ill k b (nextLeaf (page s p)) (r .1))
     where
-      by-view : View look used s a p → ((b : A) → Ill (along s used (nextLeaf (page p s)) look k b)) → Ill (along s used p look (suc k) a)
+      by-view : View look used s a p → ((b : A) → Ill (along s used (nextLeaf (page s p)) look k b)) → Ill (along s used p look (suc k) a)
       by-view (out h w v) ih = absurd (let g = r .0 .in-use in omega arith)
       by-view (last t h n w v) ih = absurd (n (r .0 .turns a) (r .0 .more))
       by-view (on b h g n w v) ih = record { fault = ih b .fault; is = w k ∙ ih b .is }
@@ -180,40 +180,40 @@ module _ {A : Type 0} (look : A → ℕ → List ℕ → Seen A) (steady : Stead
   met-runs : (m : ℕ) (a : A) (p x : ℕ) → mem x (meets s used p look m a) ≡ true → (k : ℕ) → Runs k x → Runs k p
   unfolding mem meets
   met-runs zero a p x e k r = absurd (let z : _≡_ {A = ℕ} 0 1 = cc in omega arith)
-  met-runs (suc m) a p x e k r = by-view (view look used s a p) (λ b i. met-runs m b (nextLeaf (page p s)) x i k r)
+  met-runs (suc m) a p x e k r = by-view (view look used s a p) (λ b i. met-runs m b (nextLeaf (page s p)) x i k r)
     where
       by-test : (t : Bool) → eqb p x ≡ t → (l : List ℕ) → (mem x l ≡ true → Runs k p) → (t || mem x l) ≡ true → Runs k p
       by-test true q l ih u = subst (Runs k) (sym (eqb-true p x q)) r
       by-test false q l ih u = ih u
 
-      by-view : View look used s a p → ((b : A) → mem x (meets s used (nextLeaf (page p s)) look m b) ≡ true → Runs k (nextLeaf (page p s))) → Runs k p
+      by-view : View look used s a p → ((b : A) → mem x (meets s used (nextLeaf (page s p)) look m b) ≡ true → Runs k (nextLeaf (page s p))) → Runs k p
       by-view (out h w v) ih = absurd (let z : _≡_ {A = Bool} false true = ap (mem x) (sym (v m)) ∙ e in let y : _≡_ {A = ℕ} 0 1 = cc in omega arith)
       by-view (last t h n w v) ih = by-test (eqb p x) refl [] (λ u. absurd (let z : _≡_ {A = ℕ} 0 1 = cc in omega arith)) (ap (mem x) (sym (v m)) ∙ e)
       by-view (on b h g n w v) ih =
-          by-test (eqb p x) refl (meets s used (nextLeaf (page p s)) look m b)
-          (λ u. runs-less k p (record { in-use = h; turns = λ c. steady c a p (page p s) ∙ g; more = n }, ih b u))
+          by-test (eqb p x) refl (meets s used (nextLeaf (page s p)) look m b)
+          (λ u. runs-less k p (record { in-use = h; turns = λ c. steady c a p (page s p) ∙ g; more = n }, ih b u))
           (ap (mem x) (sym (v m)) ∙ e)
 
-  back-runs : (p : ℕ) → Goes p → ((k : ℕ) → Runs k p → Runs k (nextLeaf (page p s))) → (k : ℕ) → Runs k p
+  back-runs : (p : ℕ) → Goes p → ((k : ℕ) → Runs k p → Runs k (nextLeaf (page s p))) → (k : ℕ) → Runs k p
   back-runs p g f zero = tt
   back-runs p g f (suc k) = (g, f k (back-runs p g f k))
 
   twice-runs : (m : ℕ) (a : A) (p : ℕ) → distinct (meets s used p look m a) ≡ false → (k : ℕ) → Runs k p
   unfolding distinct mem meets
   twice-runs zero a p e = absurd (let z : _≡_ {A = ℕ} 0 1 = cc in omega arith)
-  twice-runs (suc m) a p e = by-view (view look used s a p) (λ b i. twice-runs m b (nextLeaf (page p s)) i)
+  twice-runs (suc m) a p e = by-view (view look used s a p) (λ b i. twice-runs m b (nextLeaf (page s p)) i)
     where
-      by-mem : Goes p → (b : A) (t : Bool) → mem p (meets s used (nextLeaf (page p s)) look m b) ≡ t
-          → (distinct (meets s used (nextLeaf (page p s)) look m b) ≡ false → (k : ℕ) → Runs k (nextLeaf (page p s)))
-          → (not t && distinct (meets s used (nextLeaf (page p s)) look m b)) ≡ false → (k : ℕ) → Runs k p
-      by-mem g b true q ih u k = back-runs p g (met-runs m b (nextLeaf (page p s)) p q) k
+      by-mem : Goes p → (b : A) (t : Bool) → mem p (meets s used (nextLeaf (page s p)) look m b) ≡ t
+          → (distinct (meets s used (nextLeaf (page s p)) look m b) ≡ false → (k : ℕ) → Runs k (nextLeaf (page s p)))
+          → (not t && distinct (meets s used (nextLeaf (page s p)) look m b)) ≡ false → (k : ℕ) → Runs k p
+      by-mem g b true q ih u k = back-runs p g (met-runs m b (nextLeaf (page s p)) p q) k
       by-mem g b false q ih u k = runs-less k p (g, ih u k)
 
-      by-view : View look used s a p → ((b : A) → distinct (meets s used (nextLeaf (page p s)) look m b) ≡ false → (k : ℕ) → Runs k (nextLeaf (page p s))) → (k : ℕ) → Runs k p
+      by-view : View look used s a p → ((b : A) → distinct (meets s used (nextLeaf (page s p)) look m b) ≡ false → (k : ℕ) → Runs k (nextLeaf (page s p))) → (k : ℕ) → Runs k p
       by-view (out h w v) ih = absurd (let z : _≡_ {A = Bool} true false = ap distinct (sym (v m)) ∙ e in let y : _≡_ {A = ℕ} 0 1 = cc in omega arith)
       by-view (last t h n w v) ih = absurd (let z : _≡_ {A = Bool} true false = ap distinct (sym (v m)) ∙ e in let y : _≡_ {A = ℕ} 0 1 = cc in omega arith)
       by-view (on b h g n w v) ih =
-          by-mem (record { in-use = h; turns = λ c. steady c a p (page p s) ∙ g; more = n }) b (mem p (meets s used (nextLeaf (page p s)) look m b)) refl (ih b) (ap distinct (sym (v m)) ∙ e)
+          by-mem (record { in-use = h; turns = λ c. steady c a p (page s p) ∙ g; more = n }) b (mem p (meets s used (nextLeaf (page s p)) look m b)) refl (ih b) (ap distinct (sym (v m)) ∙ e)
 
 pub twice-is-ill : (A : Type 0) → TwiceIsIll A
 twice-is-ill A look steady used m a p s d = runs-ill look steady used s used a p (twice-runs look steady used s m a p d used)
@@ -232,7 +232,7 @@ best-turn a b false = refl
 
 pub steady-best : (sn : Snapshot) (st : ℕ → ℕ) (key : ℕ) → Steady (lookBest key sn st)
 unfolding findLeaf
-steady-best sn st key a b p pg = by-leaf seenBest (λ x l. LeafBest.Ok x l) (λ f. LeafBest.Bad f) best-turn _ _ (hasLarger key (cells pg)) (judgeLeaf p pg)
+steady-best sn st key a b p pg = by-leaf seenBest (λ x l. LeafBest.Ok x l) (λ f. LeafBest.Bad f) best-turn _ _ (hasLarger key (cells pg)) (judgeLeaf pg p)
 
 test-turn : (a b l : Bool) → turn (seenTest (LeafTest.Ok a l)) ≡ turn (seenTest (LeafTest.Ok b l))
 test-turn a b true = refl
@@ -240,4 +240,4 @@ test-turn a b false = refl
 
 pub steady-test : (claiming : Bool) (sn : Snapshot) (st : ℕ → ℕ) (seen key : ℕ) → Steady (lookTest key sn st claiming seen)
 unfolding testLeaf
-steady-test claiming sn st seen key a b p pg = by-leaf seenTest (λ x l. LeafTest.Ok x l) (λ f. LeafTest.Bad f) test-turn _ _ (hasLarger key (cells pg)) (judgeLeaf p pg)
+steady-test claiming sn st seen key a b p pg = by-leaf seenTest (λ x l. LeafTest.Ok x l) (λ f. LeafTest.Bad f) test-turn _ _ (hasLarger key (cells pg)) (judgeLeaf pg p)

@@ -51,4 +51,4 @@ module _ (sn : Snapshot) (st : ℕ → ℕ) (used root key : ℕ) (s : List ℕ)
 
 -- what is found stands in its page
 pub start-small : (s : List ℕ) (used p : ℕ) (c : Cell) → FoundIn s used p c → c .version .start ≤ 4096
-start-small s used p c f = let q = cell-placed (page p s) (c .at) c (f .there) in omega (arith, q .whole, q .inside, page-short p s)
+start-small s used p c f = let q = cell-placed (page s p) (c .at) c (f .there) in omega (arith, q .whole, q .inside, page-short p s)

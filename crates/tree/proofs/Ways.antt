@@ -30,9 +30,9 @@ pub record InnerIs (pg : List ℕ) (n : ℕ) : Type 0 where
   pub count : cellCount pg ≡ n
   pub some : 1 ≤ n
   pub few : n ≤ 510
-  pub rises : neverFalls 0 (keysFrom 0 n pg) ≡ true
+  pub rises : neverFalls 0 (keysFrom pg 0 n) ≡ true
 
-pub inner-is : (p : ℕ) (pg : List ℕ) {r : InnerJudged} {n : ℕ} → r ≡ judgeInner p pg → r ≡ InnerJudged.Ok n → InnerIs pg n
+pub inner-is : (p : ℕ) (pg : List ℕ) {r : InnerJudged} {n : ℕ} → r ≡ judgeInner pg p → r ≡ InnerJudged.Ok n → InnerIs pg n
 unfolding judgeInner
 inner-is p pg {r} {n} e q = by-test (eqb (nodeType pg) 0 && (leb 1 (cellCount pg) && (leb (cellCount pg) 510 && neverFalls 0 (keysOf pg)))) refl (sym e ∙ q)
   where
@@ -51,14 +51,14 @@ inner-is p pg {r} {n} e q = by-test (eqb (nodeType pg) 0 && (leb 1 (cellCount pg
         }
     by-test false t u = absurd (let z : _≡_ {A = ℕ} 0 1 = cc in omega arith)
 
-module _ (s : List ℕ) (p n : ℕ) {pg : List ℕ} {route : Route} (here : pg ≡ page p s) where
-  pub child-search : {key i r : ℕ} → route ≡ Route.Search key → i ≡ searchRoute key (keysFrom 0 n pg) → r ≡ childAt pg i → r ≡ childOf route p n s
+module _ (s : List ℕ) (p n : ℕ) {pg : List ℕ} {route : Route} (here : pg ≡ page s p) where
+  pub child-search : {key i r : ℕ} → route ≡ Route.Search key → i ≡ searchRoute key (keysFrom pg 0 n) → r ≡ childAt pg i → r ≡ childOf s p n route
   child-search e q u = u ∙ rw (q, e, here)
 
-  pub child-insert : {key i r : ℕ} → route ≡ Route.Insert key → i ≡ insertRoute key (keysFrom 0 n pg) → r ≡ childAt pg i → r ≡ childOf route p n s
+  pub child-insert : {key i r : ℕ} → route ≡ Route.Insert key → i ≡ insertRoute key (keysFrom pg 0 n) → r ≡ childAt pg i → r ≡ childOf s p n route
   child-insert e q u = u ∙ rw (q, e, here)
 
-  pub child-first : {r : ℕ} → route ≡ Route.First → r ≡ childAt pg 0 → r ≡ childOf route p n s
+  pub child-first : {r : ℕ} → route ≡ Route.First → r ≡ childAt pg 0 → r ≡ childOf s p n route
   child-first e u = u ∙ rw (e, here)
 
 -- ---- the way down
@@ -69,33 +69,33 @@ module _ (route : Route) (used p : ℕ) (s : List ℕ) where
   way-unused zero h e = rw (le-ltb p used h, e)
   way-unused (suc k) h e = rw (le-ltb p used h, e)
 
-  module _ {pg : List ℕ} {t : ℕ} (h : p < used) (here : pg ≡ page p s) (kind : t ≡ nodeType pg) where
+  module _ {pg : List ℕ} {t : ℕ} (h : p < used) (here : pg ≡ page s p) (kind : t ≡ nodeType pg) where
     pub way-leaf : (k : ℕ) → t ≡ 1 → Descent.Leaf p ≡ descendOf s used p route k
     unfolding descendOf
-    way-leaf zero e = rw (lt-ltb p used h, eq-eqb (nodeType (page p s)) 1 (rw (kind, here) at e))
-    way-leaf (suc k) e = rw (lt-ltb p used h, eq-eqb (nodeType (page p s)) 1 (rw (kind, here) at e))
+    way-leaf zero e = rw (lt-ltb p used h, eq-eqb (nodeType (page s p)) 1 (rw (kind, here) at e))
+    way-leaf (suc k) e = rw (lt-ltb p used h, eq-eqb (nodeType (page s p)) 1 (rw (kind, here) at e))
 
     module _ (other : t ≡ 1 → ⊥) where
-      not-leaf : eqb (nodeType (page p s)) 1 ≡ false
-      not-leaf = ne-eqb (nodeType (page p s)) 1 (λ e. other (kind ∙ rw here e))
+      not-leaf : eqb (nodeType (page s p)) 1 ≡ false
+      not-leaf = ne-eqb (nodeType (page s p)) 1 (λ e. other (kind ∙ rw here e))
 
       pub way-deep : (k : ℕ) {f : Fault} → k ≡ 0 → f ≡ structural p → Descent.Bad f ≡ descendOf s used p route k
       unfolding descendOf
       way-deep zero z e = rw (lt-ltb p used h, not-leaf, e)
       way-deep (suc k) z e = absurd (omega arith)
 
-      pub way-bad : (k : ℕ) {r : InnerJudged} {f : Fault} → (k ≡ 0 → ⊥) → r ≡ judgeInner p pg → r ≡ InnerJudged.Bad f → Descent.Bad f ≡ descendOf s used p route k
+      pub way-bad : (k : ℕ) {r : InnerJudged} {f : Fault} → (k ≡ 0 → ⊥) → r ≡ judgeInner pg p → r ≡ InnerJudged.Bad f → Descent.Bad f ≡ descendOf s used p route k
       unfolding descendOf
       way-bad zero z e q = absurd (z refl)
       way-bad (suc k) z e q = rw (lt-ltb p used h, not-leaf, ← here, sym e ∙ q)
 
-      pub way-on : (k : ℕ) {r : InnerJudged} {n q : ℕ} → (k ≡ 0 → ⊥) → r ≡ judgeInner p pg → r ≡ InnerJudged.Ok n → q ≡ childOf route p n s
+      pub way-on : (k : ℕ) {r : InnerJudged} {n q : ℕ} → (k ≡ 0 → ⊥) → r ≡ judgeInner pg p → r ≡ InnerJudged.Ok n → q ≡ childOf s p n route
           → descendOf s used q route (k - 1) ≡ descendOf s used p route k
       unfolding descendOf
       way-on zero z e u c = absurd (z refl)
       way-on (suc k) {r} {n} {q} z e u c =
           let m : suc k - 1 ≡ k = omega arith in
-          let j : judgeInner p (page p s) ≡ InnerJudged.Ok n = rw here at (sym e ∙ u) in
+          let j : judgeInner (page s p) p ≡ InnerJudged.Ok n = rw here at (sym e ∙ u) in
           rw (lt-ltb p used h, not-leaf, j, m, c)
 
 -- ---- along the chain
@@ -111,7 +111,7 @@ module _ {A : Type 0} (look : A → ℕ → List ℕ → Seen A) (used : ℕ) (a
   along-unused zero z h e = absurd (omega arith)
   along-unused (suc m) z h e = rw (le-ltb p used h, e)
 
-  module _ {pg : List ℕ} (h : p < used) (here : pg ≡ page p s) where
+  module _ {pg : List ℕ} (h : p < used) (here : pg ≡ page s p) where
     pub along-bad : (m : ℕ) {f : Fault} → 0 < m → look a p pg ≡ broken f → ill f ≡ along s used p look m a
     unfolding along
     along-bad zero z e = absurd (omega arith)

@@ -39,7 +39,7 @@ unfoldable pub along : {A : Type 0} → List ℕ → (used : ℕ) → ℕ → (A
 along s used p look zero a = ill (structural p)
 along s used p look (suc m) a =
     pick (ltb p used)
-    (onSeen (λ b. ok b) (λ b. pick (eqb (nextLeaf (page p s)) 0) (ok b) (along s used (nextLeaf (page p s)) look m b)) (λ f. ill f) (look a p (page p s)))
+    (onSeen (λ b. ok b) (λ b. pick (eqb (nextLeaf (page s p)) 0) (ok b) (along s used (nextLeaf (page s p)) look m b)) (λ f. ill f) (look a p (page s p)))
     (ill (structural p))
 
 -- ---- lookup: the newest visible version of the key

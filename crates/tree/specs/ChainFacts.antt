@@ -18,7 +18,7 @@ unfoldable pub meets : {A : Type 0} → List ℕ → (used : ℕ) → ℕ → (A
 meets s used p look zero a = []
 meets s used p look (suc m) a =
     pick (ltb p used)
-    (p ∷ onSeen (λ b. []) (λ b. pick (eqb (nextLeaf (page p s)) 0) [] (meets s used (nextLeaf (page p s)) look m b)) (λ f. []) (look a p (page p s)))
+    (p ∷ onSeen (λ b. []) (λ b. pick (eqb (nextLeaf (page s p)) 0) [] (meets s used (nextLeaf (page s p)) look m b)) (λ f. []) (look a p (page s p)))
     []
 
 -- what a leaf says of going on: 0 the walk ends, 1 it goes on, 2 a fault

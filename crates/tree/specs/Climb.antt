@@ -23,12 +23,12 @@ use Rattle.tree.specs.declared.climb.Above.{Above}
 unfoldable pub aboveFrom : List ℕ → (used p q : ℕ) → Above
 aboveFrom s used p q =
     pick (ltb q used)
-    (onInner (λ n. pick (ltb (childPlace p (childrenFrom 0 (n + 1) (page q s))) (n + 1)) (Above.Page q) (Above.Bad (structural q))) (λ f. Above.Bad f)
-    (judgeInner q (page q s)))
+    (onInner (λ n. pick (ltb (childPlace p (childrenFrom (page s q) 0 (n + 1))) (n + 1)) (Above.Page q) (Above.Bad (structural q))) (λ f. Above.Bad f)
+    (judgeInner (page s q) q))
     (Above.Bad (structural q))
 
 abbrev pub aboveOf : List ℕ → (used p : ℕ) → Above
-aboveOf s used p = aboveFrom s used p (parentOf (page p s))
+aboveOf s used p = aboveFrom s used p (parentOf (page s p))
 
 abbrev pub onAbove : {A : Type 0} → (ℕ → A) → (Fault → A) → Above → A
 onAbove good ill (Above.Page q) = good q
@@ -45,7 +45,7 @@ wayFrom p (astray f) = astray f
 
 -- "the root's parent must be 0"
 abbrev pub rootWay : List ℕ → ℕ → Way
-rootWay s p = pick (eqb (parentOf (page p s)) 0) (up (p ∷ [])) (astray (structural p))
+rootWay s p = pick (eqb (parentOf (page s p)) 0) (up (p ∷ [])) (astray (structural p))
 
 -- from page p, with k more levels above it at most
 unfoldable pub climbOf : List ℕ → (used root p k : ℕ) → Way

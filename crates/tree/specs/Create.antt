@@ -12,4 +12,4 @@ rooted s st = record { root = nextPage s st; used = allocated s st .state .used 
 
 -- the pool with that page as an empty leaf
 unfoldable pub createdPool : List ℕ → State → List ℕ
-createdPool s st = setPage (nextPage s st) (withIsRoot 1 (withNodeType 1 (page (nextPage s st) (withFresh s st)))) (withFresh s st)
+createdPool s st = setPage (nextPage s st) (withIsRoot 1 (withNodeType 1 (page (withFresh s st) (nextPage s st)))) (withFresh s st)

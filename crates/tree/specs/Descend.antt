@@ -25,16 +25,16 @@ onInner good ill (InnerJudged.Ok n) = good n
 onInner good ill (InnerJudged.Bad f) = ill f
 
 -- the child of the internal page p, which has n keys
-abbrev pub childOf : Route → (p n : ℕ) → List ℕ → ℕ
-childOf route p n s = childAt (page p s) (turnOf route (keysFrom 0 n (page p s)))
+abbrev pub childOf : List ℕ → (p n : ℕ) → Route → ℕ
+childOf s p n route = childAt (page s p) (turnOf route (keysFrom (page s p) 0 n))
 
 -- from page p, with k levels below it; an internal page on the last level is a fault of its own
 unfoldable pub descendOf : List ℕ → (used p : ℕ) → Route → (k : ℕ) → Descent
-descendOf s used p route zero = pick (ltb p used) (pick (eqb (nodeType (page p s)) nodeLeaf) (Descent.Leaf p) (Descent.Bad (structural p))) (Descent.Bad (structural p))
+descendOf s used p route zero = pick (ltb p used) (pick (eqb (nodeType (page s p)) nodeLeaf) (Descent.Leaf p) (Descent.Bad (structural p))) (Descent.Bad (structural p))
 descendOf s used p route (suc k) =
     pick (ltb p used)
-    (pick (eqb (nodeType (page p s)) nodeLeaf) (Descent.Leaf p)
-    (onInner (λ n. descendOf s used (childOf route p n s) route k) (λ f. Descent.Bad f) (judgeInner p (page p s))))
+    (pick (eqb (nodeType (page s p)) nodeLeaf) (Descent.Leaf p)
+    (onInner (λ n. descendOf s used (childOf s p n route) route k) (λ f. Descent.Bad f) (judgeInner (page s p) p)))
     (Descent.Bad (structural p))
 
 -- go on from the leaf that it comes to

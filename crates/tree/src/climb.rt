@@ -63,7 +63,7 @@ fn lost_at(f: Fault) -> Climbed
 // At the root, with the path to it.
 fn arrive(pool: &[u8], p: u32, path: Path) -> Climbed
     requires { ⌜ p * 4096 + 4096 ≤ length (now pool) ⌝ }
-    ensures { λ r. ⌜ r ≡ atRoot p path (now (pool .entry)) ⌝ }
+    ensures { λ r. ⌜ r ≡ atRoot (now (pool .entry)) p path ⌝ }
 {
     if page::get_parent(page::pool::page_of(pool, p)) == 0 {
         return Climbed {

@@ -115,19 +115,19 @@ joined (x ∷ xs) b r =
 -- how many links lead from page p to the end, counted up to n
 unfoldable far : (n : ℕ) → List ℕ → (p : ℕ) → ℕ
 far zero s p = 0
-far (suc n) s p = pick (eqb (nextLeaf (page p s)) 0) 0 (suc (far n s (nextLeaf (page p s))))
+far (suc n) s p = pick (eqb (nextLeaf (page s p)) 0) 0 (suc (far n s (nextLeaf (page s p))))
 
 record Linked (s : List ℕ) (x y : ℕ) (ys : List ℕ) : Type 0 where
-  next : nextLeaf (page x s) ≡ y
+  next : nextLeaf (page s x) ≡ y
   no-first : eqb y 0 ≡ false
   rest : leavesLinked s (y ∷ ys) ≡ true
 
 linked-is : (s : List ℕ) (x y : ℕ) (ys : List ℕ) → leavesLinked s (x ∷ (y ∷ ys)) ≡ true → Linked s x y ys
 unfolding leavesLinked
 linked-is s x y ys e =
-    let a = and-both (eqb (nextLeaf (page x s)) y) (not (eqb y 0) && leavesLinked s (y ∷ ys)) e in
+    let a = and-both (eqb (nextLeaf (page s x)) y) (not (eqb y 0) && leavesLinked s (y ∷ ys)) e in
     let b = and-both (not (eqb y 0)) (leavesLinked s (y ∷ ys)) (a .1) in
-    record { next = eqb-true (nextLeaf (page x s)) y (a .0); no-first = not-true (eqb y 0) (b .0); rest = b .1 }
+    record { next = eqb-true (nextLeaf (page s x)) y (a .0); no-first = not-true (eqb y 0) (b .0); rest = b .1 }
 
 far-is : (s : List ℕ) (xs : List ℕ) (x n : ℕ) → length xs ≤ n → leavesLinked s (x ∷ xs) ≡ true → far n s x ≡ length xs
 unfolding far leavesLinked
@@ -210,32 +210,32 @@ distinct-each f g lead (c ∷ cs) h d =
 
 -- ---- sound pages
 
-leaf-type : (used parent p lo hi : ℕ) (s : List ℕ) → soundLeaf s used parent p lo hi ≡ true → eqb (nodeType (page p s)) 0 ≡ false
+leaf-type : (used parent p lo hi : ℕ) (s : List ℕ) → soundLeaf s used parent p lo hi ≡ true → eqb (nodeType (page s p)) 0 ≡ false
 unfolding soundLeaf cellsWithin judgeLeaf
 leaf-type used parent p lo hi s e =
-    let a = and-both (ltb p used) (eqb (parentOf (page p s)) parent && cellsWithin lo hi p (page p s)) e in
-    let b = and-both (eqb (parentOf (page p s)) parent) (cellsWithin lo hi p (page p s)) (a .1) in
-    by-type (eqb (nodeType (page p s)) 1) refl (b .1)
+    let a = and-both (ltb p used) (eqb (parentOf (page s p)) parent && cellsWithin (page s p) lo hi p) e in
+    let b = and-both (eqb (parentOf (page s p)) parent) (cellsWithin (page s p) lo hi p) (a .1) in
+    by-type (eqb (nodeType (page s p)) 1) refl (b .1)
   where
-    by-type : (b : Bool) → eqb (nodeType (page p s)) 1 ≡ b
-        → onJudged (λ e. foldCells (λ b c. b && within lo hi (c .key)) true (cells (page p s))) (λ f. false)
-        (pick b (judgeCells p 0 0 (cellCount (page p s)) 12 (page p s)) (Judged.Bad (structural p)))
+    by-type : (b : Bool) → eqb (nodeType (page s p)) 1 ≡ b
+        → onJudged (λ e. foldCells (λ b c. b && within lo hi (c .key)) true (cells (page s p))) (λ f. false)
+        (pick b (judgeCells (page s p) p 0 0 (cellCount (page s p)) 12) (Judged.Bad (structural p)))
         ≡ true
-        → eqb (nodeType (page p s)) 0 ≡ false
-    by-type true t q = let n = eqb-true (nodeType (page p s)) 1 t in ne-eqb (nodeType (page p s)) 0 (λ z. omega arith)
+        → eqb (nodeType (page s p)) 0 ≡ false
+    by-type true t q = let n = eqb-true (nodeType (page s p)) 1 t in ne-eqb (nodeType (page s p)) 0 (λ z. omega arith)
     by-type false t q = absurd (false≢true q)
 
-inner-type : (used parent p lo hi : ℕ) (s : List ℕ) → soundInner s used parent p lo hi ≡ true → eqb (nodeType (page p s)) 0 ≡ true
+inner-type : (used parent p lo hi : ℕ) (s : List ℕ) → soundInner s used parent p lo hi ≡ true → eqb (nodeType (page s p)) 0 ≡ true
 unfolding soundInner judgeInner
 inner-type used parent p lo hi s e =
-    let a = and-both (ltb p used) (eqb (parentOf (page p s)) parent && onInner (λ n. allWithin lo hi (keysOf (page p s))) (λ f. false) (judgeInner p (page p s))) e in
-    let b = and-both (eqb (parentOf (page p s)) parent) (onInner (λ n. allWithin lo hi (keysOf (page p s))) (λ f. false) (judgeInner p (page p s))) (a .1) in
-    by-type (eqb (nodeType (page p s)) 0) (b .1)
+    let a = and-both (ltb p used) (eqb (parentOf (page s p)) parent && onInner (λ n. allWithin lo hi (keysOf (page s p))) (λ f. false) (judgeInner (page s p) p)) e in
+    let b = and-both (eqb (parentOf (page s p)) parent) (onInner (λ n. allWithin lo hi (keysOf (page s p))) (λ f. false) (judgeInner (page s p) p)) (a .1) in
+    by-type (eqb (nodeType (page s p)) 0) (b .1)
   where
     by-type : (b : Bool)
-        → onInner (λ n. allWithin lo hi (keysOf (page p s))) (λ f. false)
-        (pick (b && (leb 1 (cellCount (page p s)) && (leb (cellCount (page p s)) 510 && neverFalls 0 (keysOf (page p s)))))
-        (InnerJudged.Ok (cellCount (page p s)))
+        → onInner (λ n. allWithin lo hi (keysOf (page s p))) (λ f. false)
+        (pick (b && (leb 1 (cellCount (page s p)) && (leb (cellCount (page s p)) 510 && neverFalls 0 (keysOf (page s p)))))
+        (InnerJudged.Ok (cellCount (page s p)))
         (InnerJudged.Bad (structural p)))
         ≡ true
         → b ≡ true
@@ -244,23 +244,23 @@ inner-type used parent p lo hi s e =
 
 -- a page that is sound under some bounds
 abbrev SoundAt : (k used : ℕ) → List ℕ → (parent c : ℕ) → Type 0
-SoundAt k used s parent c = (lo : ℕ) × (hi : ℕ) × (soundTree k used s parent c lo hi ≡ true)
+SoundAt k used s parent c = (lo : ℕ) × (hi : ℕ) × (soundTree s used k parent c lo hi ≡ true)
 
-sound-each : (f : ℕ → ℕ → ℕ → Bool) (pg : List ℕ) (n i lo hi : ℕ) → soundKids f lo hi (keysFrom i n pg) (childrenFrom i (suc n) pg) ≡ true
-    → Each (λ c. (lo : ℕ) × (hi : ℕ) × (f c lo hi ≡ true)) (childrenFrom i (suc n) pg)
+sound-each : (f : ℕ → ℕ → ℕ → Bool) (pg : List ℕ) (n i lo hi : ℕ) → soundKids f lo hi (keysFrom pg i n) (childrenFrom pg i (suc n)) ≡ true
+    → Each (λ c. (lo : ℕ) × (hi : ℕ) × (f c lo hi ≡ true)) (childrenFrom pg i (suc n))
 unfolding soundKids keysFrom childrenFrom
 sound-each f pg zero i lo hi e = ((lo, hi, e), tt)
 sound-each f pg (suc n) i lo hi e =
-    let a = and-both (f (childAt pg i) lo (keyAt pg i)) (soundKids f (keyAt pg i) hi (keysFrom (i + 1) n pg) (childrenFrom (i + 1) (suc n) pg)) e in (
+    let a = and-both (f (childAt pg i) lo (keyAt pg i)) (soundKids f (keyAt pg i) hi (keysFrom pg (i + 1) n) (childrenFrom pg (i + 1) (suc n))) e in (
       (lo, keyAt pg i, a .0),
       sound-each f pg n (i + 1) (keyAt pg i) hi (a .1),
     )
 
 -- the first child and the others
 abbrev others : List ℕ → List ℕ
-others pg = childrenFrom 1 (cellCount pg) pg
+others pg = childrenFrom pg 1 (cellCount pg)
 
-pub children-count : (pg : List ℕ) → childrenOf pg ≡ childrenFrom 0 (suc (cellCount pg)) pg
+pub children-count : (pg : List ℕ) → childrenOf pg ≡ childrenFrom pg 0 (suc (cellCount pg))
 children-count pg = rw add-one
 
 children-are : (pg : List ℕ) → childrenOf pg ≡ childAt pg 0 ∷ others pg
@@ -268,35 +268,35 @@ unfolding childrenFrom
 children-are pg = children-count pg
 
 record SoundPage (k used : ℕ) (s : List ℕ) (p : ℕ) : Type 0 where
-  is-inner : eqb (nodeType (page p s)) 0 ≡ true
-  kids : Each (SoundAt k used s p) (childrenOf (page p s))
-  first : SoundAt k used s p (childAt (page p s) 0)
+  is-inner : eqb (nodeType (page s p)) 0 ≡ true
+  kids : Each (SoundAt k used s p) (childrenOf (page s p))
+  first : SoundAt k used s p (childAt (page s p) 0)
 
-sound-page : (k used : ℕ) (s : List ℕ) (parent p lo hi : ℕ) → soundTree (suc k) used s parent p lo hi ≡ true → SoundPage k used s p
+sound-page : (k used : ℕ) (s : List ℕ) (parent p lo hi : ℕ) → soundTree s used (suc k) parent p lo hi ≡ true → SoundPage k used s p
 unfolding soundTree
 sound-page k used s parent p lo hi e =
-    let a = and-both (soundInner s used parent p lo hi) (soundKids (soundTree k used s p) lo hi (keysOf (page p s)) (childrenOf (page p s))) e in
-    let all : Each (SoundAt k used s p) (childrenOf (page p s)) =
-    rw (children-count (page p s)) (sound-each (soundTree k used s p) (page p s) (cellCount (page p s)) 0 lo hi (rw (children-count (page p s)) at (a .1))) in
-    record { is-inner = inner-type used parent p lo hi s (a .0); kids = all; first = subst (Each (SoundAt k used s p)) (children-are (page p s)) all .0 }
+    let a = and-both (soundInner s used parent p lo hi) (soundKids (soundTree s used k p) lo hi (keysOf (page s p)) (childrenOf (page s p))) e in
+    let all : Each (SoundAt k used s p) (childrenOf (page s p)) =
+    rw (children-count (page s p)) (sound-each (soundTree s used k p) (page s p) (cellCount (page s p)) 0 lo hi (rw (children-count (page s p)) at (a .1))) in
+    record { is-inner = inner-type used parent p lo hi s (a .0); kids = all; first = subst (Each (SoundAt k used s p)) (children-are (page s p)) all .0 }
 
 -- ---- the way to a page's first leaf
 
 -- from page p: where it ends, and how many steps it has, counted up to n
 unfoldable lead : (n : ℕ) → List ℕ → (p : ℕ) → ℕ
 lead zero s p = p
-lead (suc n) s p = pick (eqb (nodeType (page p s)) 0) (lead n s (childAt (page p s) 0)) p
+lead (suc n) s p = pick (eqb (nodeType (page s p)) 0) (lead n s (childAt (page s p) 0)) p
 
 unfoldable deep : (n : ℕ) → List ℕ → (p : ℕ) → ℕ
 deep zero s p = 0
-deep (suc n) s p = pick (eqb (nodeType (page p s)) 0) (suc (deep n s (childAt (page p s) 0))) 0
+deep (suc n) s p = pick (eqb (nodeType (page s p)) 0) (suc (deep n s (childAt (page s p) 0))) 0
 
 record Led (n k : ℕ) (s : List ℕ) (p : ℕ) : Type 0 where
   level : deep n s p ≡ k
-  inside : mem (lead n s p) (leavesOf k s p) ≡ true
+  inside : mem (lead n s p) (leavesOf s k p) ≡ true
 
 module _ (used : ℕ) (s : List ℕ) where
-  led : (n k parent p lo hi : ℕ) → k ≤ n → soundTree k used s parent p lo hi ≡ true → Led n k s p
+  led : (n k parent p lo hi : ℕ) → k ≤ n → soundTree s used k parent p lo hi ≡ true → Led n k s p
   unfolding lead deep leavesOf eachOf soundTree
   led zero zero parent p lo hi h e = record { level = refl; inside = mem-here p [] }
   led (suc n) zero parent p lo hi h e =
@@ -305,19 +305,19 @@ module _ (used : ℕ) (s : List ℕ) where
   led zero (suc k) parent p lo hi h e = absurd (omega arith)
   led (suc n) (suc k) parent p lo hi h e =
       let q = sound-page k used s parent p lo hi e in
-      let c = childAt (page p s) 0 in
+      let c = childAt (page s p) 0 in
       let r = led n k p c (q .first .0) (q .first .1) (omega arith) (q .first .2) in
       record {
         level = rw (q .is-inner) (ap suc (r .level));
-        inside = rw (q .is-inner, children-are (page p s)) (mem-left (lead n s c) (leavesOf k s c) (eachOf (leavesOf k s) (others (page p s))) (r .inside));
+        inside = rw (q .is-inner, children-are (page s p)) (mem-left (lead n s c) (leavesOf s k c) (eachOf (leavesOf s k) (others (page s p))) (r .inside));
       }
 
   -- a page of the subtree: not higher than its top, and its first leaf is one of the subtree's
   record Under (n k p q : ℕ) : Type 0 where
     low : deep n s q ≤ k
-    inside : mem (lead n s q) (leavesOf k s p) ≡ true
+    inside : mem (lead n s q) (leavesOf s k p) ≡ true
 
-  under : (n k parent p lo hi q : ℕ) → k ≤ n → soundTree k used s parent p lo hi ≡ true → mem q (pagesOf k s p) ≡ true → Under n k p q
+  under : (n k parent p lo hi q : ℕ) → k ≤ n → soundTree s used k parent p lo hi ≡ true → mem q (pagesOf s k p) ≡ true → Under n k p q
   unfolding leavesOf pagesOf
   under n zero parent p lo hi q h e m =
       let l = led n zero parent p lo hi h e in
@@ -326,30 +326,30 @@ module _ (used : ℕ) (s : List ℕ) where
   under n (suc k) parent p lo hi q h e m =
       let l = led n (suc k) parent p lo hi h e in
       ⊎-elim (λ (i : p ≡ q). subst (λ (x : ℕ). Under n (suc k) p x) i (record { low = omega arith; inside = l .inside }))
-      (λ (i : mem q (eachOf (pagesOf k s) (childrenOf (page p s))) ≡ true).
-      let o = of-each (pagesOf k s) (leavesOf k s) (childrenOf (page p s)) q (sound-page k used s parent p lo hi e .kids) i in
+      (λ (i : mem q (eachOf (pagesOf s k) (childrenOf (page s p))) ≡ true).
+      let o = of-each (pagesOf s k) (leavesOf s k) (childrenOf (page s p)) q (sound-page k used s parent p lo hi e .kids) i in
       let u = under n k p (o .child) (o .fact .0) (o .fact .1) q (omega arith) (o .fact .2) (o .here) in
       record { low = omega arith; inside = o .among (lead n s q) (u .inside) })
-      (mem-cons q p (eachOf (pagesOf k s) (childrenOf (page p s))) m)
+      (mem-cons q p (eachOf (pagesOf s k) (childrenOf (page s p))) m)
 
-  pages-part : (n k parent p lo hi : ℕ) → k ≤ n → soundTree k used s parent p lo hi ≡ true → distinct (leavesOf k s p) ≡ true → distinct (pagesOf k s p) ≡ true
+  pages-part : (n k parent p lo hi : ℕ) → k ≤ n → soundTree s used k parent p lo hi ≡ true → distinct (leavesOf s k p) ≡ true → distinct (pagesOf s k p) ≡ true
   unfolding leavesOf pagesOf
   pages-part n zero parent p lo hi h e d = d
   pages-part n (suc k) parent p lo hi h e d =
-      let cs = childrenOf (page p s) in
+      let cs = childrenOf (page s p) in
       let kids = sound-page k used s parent p lo hi e .kids in
-      let down : (c : ℕ) → SoundAt k used s p c → Leads (pagesOf k s) (leavesOf k s) (lead n s) c
+      let down : (c : ℕ) → SoundAt k used s p c → Leads (pagesOf s k) (leavesOf s k) (lead n s) c
       = λ c f. record {
         alone = pages-part n k p c (f .0) (f .1) (omega arith) (f .2);
         into = λ q m. under n k p c (f .0) (f .1) q (omega arith) (f .2) m .inside;
       } in
-      distinct-cons p (eachOf (pagesOf k s) cs)
+      distinct-cons p (eachOf (pagesOf s k) cs)
       (λ m.
-      let o = of-each (pagesOf k s) (leavesOf k s) cs p kids m in
+      let o = of-each (pagesOf s k) (leavesOf s k) cs p kids m in
       let u = under n k p (o .child) (o .fact .0) (o .fact .1) p (omega arith) (o .fact .2) (o .here) in
       let l = led n (suc k) parent p lo hi h e in
       omega arith)
-      (distinct-each (pagesOf k s) (leavesOf k s) (lead n s) cs (each-map down cs kids) d)
+      (distinct-each (pagesOf s k) (leavesOf s k) (lead n s) cs (each-map down cs kids) d)
 
 pub links-part : LinksPart
-links-part k used root s e l = pages-part used s k k 0 root 0 4294967295 (omega arith) e (linked-distinct s (leavesOf k s root) l)
+links-part k used root s e l = pages-part used s k k 0 root 0 4294967295 (omega arith) e (linked-distinct s (leavesOf s k root) l)

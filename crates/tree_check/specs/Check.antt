@@ -24,18 +24,18 @@ allWithin lo hi [] = true
 allWithin lo hi (k ∷ ks) = within lo hi k && allWithin lo hi ks
 
 -- a leaf that is judged well, every cell's key from lo to hi
-unfoldable pub cellsWithin : (lo hi p : ℕ) → List ℕ → Bool
-cellsWithin lo hi p pg = onJudged (λ e. foldCells (λ b c. b && within lo hi (c .key)) true (cells pg)) (λ f. false) (judgeLeaf p pg)
+unfoldable pub cellsWithin : List ℕ → (lo hi p : ℕ) → Bool
+cellsWithin pg lo hi p = onJudged (λ e. foldCells (λ b c. b && within lo hi (c .key)) true (cells pg)) (λ f. false) (judgeLeaf pg p)
 
 -- page p is in use, has that parent, and is such a leaf
 unfoldable pub soundLeaf : List ℕ → (used parent p lo hi : ℕ) → Bool
-soundLeaf s used parent p lo hi = ltb p used && (eqb (parentOf (page p s)) parent && cellsWithin lo hi p (page p s))
+soundLeaf s used parent p lo hi = ltb p used && (eqb (parentOf (page s p)) parent && cellsWithin (page s p) lo hi p)
 
 -- or an internal page that is judged well, every key from lo to hi
 unfoldable pub soundInner : List ℕ → (used parent p lo hi : ℕ) → Bool
 soundInner s used parent p lo hi =
     ltb p used
-    && (eqb (parentOf (page p s)) parent && onInner (λ n. allWithin lo hi (keysOf (page p s))) (λ f. false) (judgeInner p (page p s)))
+    && (eqb (parentOf (page s p)) parent && onInner (λ n. allWithin lo hi (keysOf (page s p))) (λ f. false) (judgeInner (page s p) p))
 
 -- ---- a subtree with k levels below its top
 
@@ -45,34 +45,34 @@ soundKids f lo hi ks [] = false
 soundKids f lo hi [] (c ∷ cs) = f c lo hi
 soundKids f lo hi (k ∷ ks) (c ∷ cs) = f c lo k && soundKids f k hi ks cs
 
-unfoldable pub soundTree : (k used : ℕ) → List ℕ → (parent p lo hi : ℕ) → Bool
-soundTree zero used s parent p lo hi = soundLeaf s used parent p lo hi
-soundTree (suc k) used s parent p lo hi = soundInner s used parent p lo hi && soundKids (soundTree k used s p) lo hi (keysOf (page p s)) (childrenOf (page p s))
+unfoldable pub soundTree : List ℕ → (used k parent p lo hi : ℕ) → Bool
+soundTree s used zero parent p lo hi = soundLeaf s used parent p lo hi
+soundTree s used (suc k) parent p lo hi = soundInner s used parent p lo hi && soundKids (soundTree s used k p) lo hi (keysOf (page s p)) (childrenOf (page s p))
 
 -- the leaves, left to right, and all pages
 unfoldable pub eachOf : (ℕ → List ℕ) → List ℕ → List ℕ
 eachOf f [] = []
 eachOf f (c ∷ cs) = f c ++ eachOf f cs
 
-unfoldable pub leavesOf : (k : ℕ) → List ℕ → (p : ℕ) → List ℕ
-leavesOf zero s p = p ∷ []
-leavesOf (suc k) s p = eachOf (leavesOf k s) (childrenOf (page p s))
+unfoldable pub leavesOf : List ℕ → (k p : ℕ) → List ℕ
+leavesOf s zero p = p ∷ []
+leavesOf s (suc k) p = eachOf (leavesOf s k) (childrenOf (page s p))
 
-unfoldable pub pagesOf : (k : ℕ) → List ℕ → (p : ℕ) → List ℕ
-pagesOf zero s p = p ∷ []
-pagesOf (suc k) s p = p ∷ eachOf (pagesOf k s) (childrenOf (page p s))
+unfoldable pub pagesOf : List ℕ → (k p : ℕ) → List ℕ
+pagesOf s zero p = p ∷ []
+pagesOf s (suc k) p = p ∷ eachOf (pagesOf s k) (childrenOf (page s p))
 
 -- ---- the tree
 
 -- "Next-leaf links run left to right and end with 0, so page 0 is no leaf but the first"
 unfoldable pub leavesLinked : List ℕ → List ℕ → Bool
 leavesLinked s [] = true
-leavesLinked s (x ∷ []) = eqb (nextLeaf (page x s)) 0
-leavesLinked s (x ∷ (y ∷ ys)) = eqb (nextLeaf (page x s)) y && (not (eqb y 0) && leavesLinked s (y ∷ ys))
+leavesLinked s (x ∷ []) = eqb (nextLeaf (page s x)) 0
+leavesLinked s (x ∷ (y ∷ ys)) = eqb (nextLeaf (page s x)) y && (not (eqb y 0) && leavesLinked s (y ∷ ys))
 
 -- with k levels below the root; ranks are from 0 to 4294967295, so that the root has no bounds
 unfoldable pub wellAt : List ℕ → (used root k : ℕ) → Bool
-wellAt s used root k = soundTree k used s 0 root 0 4294967295 && (leavesLinked s (leavesOf k s root) && distinct (pagesOf k s root))
+wellAt s used root k = soundTree s used k 0 root 0 4294967295 && (leavesLinked s (leavesOf s k root) && distinct (pagesOf s k root))
 
 unfoldable pub isWellFormed : List ℕ → (used root : ℕ) → Bool
 isWellFormed s used root = wellAt s used root 0 || (wellAt s used root 1 || (wellAt s used root 2 || wellAt s used root 3))

@@ -34,7 +34,7 @@ fn is_within(lo: u32, hi: u32, k: u32) -> bool
 
 fn cells_within(pg: &[u8], p: u32, lo: u32, hi: u32) -> bool
     requires { ⌜ length (now pg) ≡ 4096 ⌝ }
-    ensures { λ r. ⌜ r ≡ cellsWithin lo hi p (now (pg .entry)) ⌝ }
+    ensures { λ r. ⌜ r ≡ cellsWithin (now (pg .entry)) lo hi p ⌝ }
 {
     if page::get_node_type(pg) != page::NODE_LEAF {
         return false;
@@ -75,7 +75,7 @@ fn sound_leaf(pool: &[u8], used: u32, parent: u32, p: u32, lo: u32, hi: u32) -> 
 // The keys never fall, so the first and the last tell for all.
 fn sound_inner(pool: &[u8], used: u32, parent: u32, p: u32, lo: u32, hi: u32) -> InnerSound
     requires { ⌜ used * 4096 ≤ length (now pool) ⌝ }
-    ensures { λ r. ⌜ r ≡ innerSound used parent p lo hi (now (pool .entry)) ⌝ }
+    ensures { λ r. ⌜ r ≡ innerSound (now (pool .entry)) used parent p lo hi ⌝ }
 {
     if used <= p {
         return InnerSound::Ill;
@@ -110,7 +110,7 @@ pub fn check_subtree(
     next: u32,
 ) -> Verdict
     requires { ⌜ used * 4096 ≤ length (now pool) ⌝ }
-    ensures { λ r. ⌜ r ≡ checkOf below used (now (pool .entry)) parent p lo hi next ⌝ }
+    ensures { λ r. ⌜ r ≡ checkOf (now (pool .entry)) used below parent p lo hi next ⌝ }
 {
     if below == 0 {
         return check_leaf(pool, used, parent, p, lo, hi, next);
@@ -151,7 +151,7 @@ pub fn check_subtree(
 
 fn check_leaf(pool: &[u8], used: u32, parent: u32, p: u32, lo: u32, hi: u32, next: u32) -> Verdict
     requires { ⌜ used * 4096 ≤ length (now pool) ⌝ }
-    ensures { λ r. ⌜ r ≡ checkOf 0 used (now (pool .entry)) parent p lo hi next ⌝ }
+    ensures { λ r. ⌜ r ≡ checkOf (now (pool .entry)) used 0 parent p lo hi next ⌝ }
 {
     if sound_leaf(pool, used, parent, p, lo, hi) {
         if page::get_next_leaf(page::pool::page_of(pool, p)) == next {

@@ -66,7 +66,7 @@ module _ (p i sep new : ℕ) (s : List ℕ) (st : State) (safe : HalvedSafe p i 
 
   module _ {a : Allocated} {t : List ℕ} (given : a ≡ allocated s st) (fresh : t ≡ withFresh s st) where
     -- the page is not touched by the allocation
-    still : page p t ≡ page p s
+    still : page t p ≡ page s p
     unfolding HalvedSafe withFresh nextPage
     still =
         let l : p < st .used = safe .1 in
@@ -77,21 +77,21 @@ module _ (p i sep new : ℕ) (s : List ℕ) (st : State) (safe : HalvedSafe p i 
     unfolding allocated
     next-is = ap (λ (x : Allocated). x .page) given
 
-    pub halved-asks : (p < a .page) × (i ≤ 510) × (cellCount (page p t) ≡ 510)
+    pub halved-asks : (p < a .page) × (i ≤ 510) × (cellCount (page t p) ≡ 510)
     unfolding HalvedSafe
     halved-asks = (rw (alloc-page s st given) (safe .1), safe .2, rw still (safe .3))
 
-    module _ {t₂ : List ℕ} (cut : t₂ ≡ setPage p (leftHalf i sep new (page p t)) (setPage (a .page) (rightHalf i sep new (page p t) (page (a .page) t)) t)) where
+    module _ {t₂ : List ℕ} (cut : t₂ ≡ setPage p (leftHalf i sep new (page t p)) (setPage (a .page) (rightHalf i sep new (page t p) (page t (a .page))) t)) where
       pub halved-adopts : AdoptSafe 256 0 (a .page) (a .page) t₂
       unfolding HalvedSafe
       halved-adopts = rw (cut, next-is, fresh) (safe .4)
 
-      module _ {t₃ : List ℕ} {middle : ℕ} (key : middle ≡ middleKey i sep new (page p t)) (linked₀ : t₃ ≡ adopted 256 0 (a .page) (a .page) t₂) (ps : List ℕ) where
+      module _ {t₃ : List ℕ} {middle : ℕ} (key : middle ≡ middleKey i sep new (page t p)) (linked₀ : t₃ ≡ adopted 256 0 (a .page) (a .page) t₂) (ps : List ℕ) where
         done : grown t₃ (a .state) ≡ halved p i sep new (grown s st)
         unfolding halved
         done = rw (linked₀, cut, next-is, fresh, given)
 
-        pub halved-enters : EnterSafe ps p (middleKey i sep new (page p s)) (nextPage s st) (halved p i sep new (grown s st)) → EnterSafe ps p middle (a .page) (grown t₃ (a .state))
+        pub halved-enters : EnterSafe ps p (middleKey i sep new (page s p)) (nextPage s st) (halved p i sep new (grown s st)) → EnterSafe ps p middle (a .page) (grown t₃ (a .state))
         halved-enters h = rw (done, key, still, next-is) h
 
         pub halved-done : enterOf ps p middle (a .page) (grown t₃ (a .state)) ≡ divideOf ps p i sep new (grown s st)
@@ -109,37 +109,37 @@ module _ (ps : List ℕ) (old sep new : ℕ) (g : Grown) (none : ps ≡ []) wher
   safe-top h = rw none at h
 
 -- the place of old in page p, as it was found
-pub at-place : (p old : ℕ) (s : List ℕ) {pg : List ℕ} {n i : ℕ} → pg ≡ page p s → n ≡ cellCount pg → i ≡ childPlace old (childrenFrom 0 (n + 1) pg) → i ≡ placeIn old (page p s)
+pub at-place : (p old : ℕ) (s : List ℕ) {pg : List ℕ} {n i : ℕ} → pg ≡ page s p → n ≡ cellCount pg → i ≡ childPlace old (childrenFrom pg 0 (n + 1)) → i ≡ placeIn (page s p) old
 at-place p old s of count place = place ∙ rw (count, of)
 
 -- in a page p, which has n keys and the page old at i
 module _ (ps qs : List ℕ) (p old sep new : ℕ) (s : List ℕ) (st : State) (more : ps ≡ p ∷ qs) where
-  pub safe-here : EnterSafe ps old sep new (grown s st) → There old s × There new s × There p s × (cellCount (page p s) ≤ 510) × (placeIn old (page p s) ≤ cellCount (page p s))
+  pub safe-here : EnterSafe ps old sep new (grown s st) → There old s × There new s × There p s × (cellCount (page s p) ≤ 510) × (placeIn (page s p) old ≤ cellCount (page s p))
   unfolding EnterSafe
   safe-here h = let k = rw more at h in (k .0, k .1, k .2, k .3, k .4)
 
-  module _ {pg : List ℕ} {n i : ℕ} (of : pg ≡ page p s) (count : n ≡ cellCount pg) (place : i ≡ childPlace old (childrenFrom 0 (n + 1) pg)) where
-    pub enter-room : {t : List ℕ} → n < 510 → t ≡ linkedBoth old new p (setPage p (withEntry i sep new (page p s)) s)
+  module _ {pg : List ℕ} {n i : ℕ} (of : pg ≡ page s p) (count : n ≡ cellCount pg) (place : i ≡ childPlace old (childrenFrom pg 0 (n + 1))) where
+    pub enter-room : {t : List ℕ} → n < 510 → t ≡ linkedBoth old new p (setPage p (withEntry i sep new (page s p)) s)
         → grown t st ≡ enterOf ps old sep new (grown s st)
     unfolding enterOf joinedTo
-    enter-room l e = rw (more, e, at-place p old s of count place, lt-ltb (cellCount (page p s)) 510 (rw (← of, ← count) l))
+    enter-room l e = rw (more, e, at-place p old s of count place, lt-ltb (cellCount (page s p)) 510 (rw (← of, ← count) l))
 
     module _ {t : List ℕ} (full : 510 ≤ n) (e : t ≡ linked new p s) where
       pub enter-over : divideOf qs p i sep new (grown t st) ≡ enterOf ps old sep new (grown s st)
       unfolding enterOf
-      enter-over = rw (more, e, at-place p old s of count place, le-ltb (cellCount (page p s)) 510 (rw (← of, ← count) full))
+      enter-over = rw (more, e, at-place p old s of count place, le-ltb (cellCount (page s p)) 510 (rw (← of, ← count) full))
 
       pub safe-over : EnterSafe ps old sep new (grown s st) → DivideSafe qs p i sep new (grown t st)
       unfolding EnterSafe
       safe-over h =
           let k = rw more at h in
-          let c : cellCount (page p s) ≡ n = rw (← of, ← count) in
+          let c : cellCount (page s p) ≡ n = rw (← of, ← count) in
           rw (e, at-place p old s of count place) (k .5 (omega arith))
 
 -- ---- the leaf p has divided, and page q is its right side
 
-module _ (ps : List ℕ) (p q : ℕ) (s : List ℕ) (st : State) {pg : List ℕ} {sep : ℕ} (of : pg ≡ page q s) (key : sep ≡ rankAt pg 12) where
-  module _ (safe : AboveSafe (st .root) p (rankAt (page q s) 12) q ps (grown s st)) where
+module _ (ps : List ℕ) (p q : ℕ) (s : List ℕ) (st : State) {pg : List ℕ} {sep : ℕ} (of : pg ≡ page s q) (key : sep ≡ rankAt pg 12) where
+  module _ (safe : AboveSafe (st .root) p (rankAt (page s q) 12) q ps (grown s st)) where
     pub settle-enters : EnterSafe ps p sep q (grown s st)
     settle-enters = rw (key, of) (safe .enters)
 

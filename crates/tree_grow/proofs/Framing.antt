@@ -67,7 +67,7 @@ module _ (used root : ℕ) (s : List ℕ) where
   rises-stand p [] h r apart = h
   rises-stand p (q ∷ qs) h r apart =
       let held = r .1 in
-      let is = inner-is q (page q s) refl (held .judged) in (
+      let is = inner-is q (page s q) refl (held .judged) in (
         h,
         not-mem p (q ∷ qs) (λ j l. apart 0 (suc j) (omega arith) (omega arith)),
         rw (is .count) (is .few),
@@ -120,19 +120,19 @@ in-use-both used (x ∷ xs) ys e =
     let k = in-use-both used xs ys (h .1) in
     (rw (lt-ltb x used (h .0)) (k .0), k .1)
 
-in-use-child : (used n i : ℕ) (pg : List ℕ) → inUse used (childrenFrom i n pg) ≡ Links.InUse → (k : ℕ) → i ≤ k → k < i + n → childAt pg k < used
+in-use-child : (used n i : ℕ) (pg : List ℕ) → inUse used (childrenFrom pg i n) ≡ Links.InUse → (k : ℕ) → i ≤ k → k < i + n → childAt pg k < used
 unfolding childrenFrom
 in-use-child used zero i pg e k h l = absurd (omega arith)
 in-use-child used (suc n) i pg e k h l =
-    let c = in-use-cons used (childAt pg i) (childrenFrom (i + 1) n pg) e in
+    let c = in-use-cons used (childAt pg i) (childrenFrom pg (i + 1) n) e in
     ⊎-elim
     (λ (a : k ≤ i). let f : k ≡ i = omega arith in rw f (c .0))
     (λ (a : i < k). in-use-child used n (i + 1) pg (c .1) k (omega arith) (omega arith))
     (le-or-lt k i)
 
-plan-links : (used old : ℕ) (ps s : List ℕ) → planOf s used old ps ≡ Plan.Ok (divisionOf ps s) → inUse used (relinks old ps s) ≡ Links.InUse
+plan-links : (used old : ℕ) (ps s : List ℕ) → planOf s used old ps ≡ Plan.Ok (divisionOf ps s) → inUse used (relinks s old ps) ≡ Links.InUse
 unfolding planOf
-plan-links used old ps s e = by-links (inUse used (relinks old ps s)) e
+plan-links used old ps s e = by-links (inUse used (relinks s old ps)) e
   where
     by-links : (l : Links) → onLinks (Plan.Ok (divisionOf ps s)) (λ f. Plan.Bad f) l ≡ Plan.Ok (divisionOf ps s) → l ≡ Links.InUse
     by-links Links.InUse u = refl
@@ -153,26 +153,26 @@ asked-some root s = rw (asked-top root s) (by-test (eqb root 0))
 asked-two : (root : ℕ) (s : List ℕ) → (root ≡ 0 → ⊥) → pagesAsked root (divisionOf [] s) ≡ 2
 asked-two root s h = asked-top root s ∙ rw (ne-eqb root 0 h)
 
-module _ (old p : ℕ) (ps s : List ℕ) (full : cellCount (page p s) ≡ 510) where
+module _ (old p : ℕ) (ps s : List ℕ) (full : cellCount (page s p) ≡ 510) where
   asked-step : (root : ℕ) → pagesAsked root (divisionOf (p ∷ ps) s) ≡ suc (pagesAsked root (divisionOf ps s))
   unfolding pagesAsked divisionOf fullPages
-  asked-step root = rw (eq-eqb (cellCount (page p s)) 510 full, eqb·suc-suc (fullPages ps s) (length ps)) (omega arith)
+  asked-step root = rw (eq-eqb (cellCount (page s p)) 510 full, eqb·suc-suc (fullPages ps s) (length ps)) (omega arith)
 
-  relinks-step : relinks old (p ∷ ps) s ≡ relinksIn (placeIn old (page p s)) (keepsNumber p ps) (page p s) ++ relinks p ps s
+  relinks-step : relinks s old (p ∷ ps) ≡ relinksIn (page s p) (placeIn (page s p) old) (keepsNumber p ps) ++ relinks s p ps
   unfolding relinks
-  relinks-step = rw (eq-eqb (cellCount (page p s)) 510 full)
+  relinks-step = rw (eq-eqb (cellCount (page s p)) 510 full)
 
-module _ (used i : ℕ) (pg : List ℕ) (b : Bool) (links : inUse used (relinksIn i b pg) ≡ Links.InUse) where
+module _ (used i : ℕ) (pg : List ℕ) (b : Bool) (links : inUse used (relinksIn pg i b) ≡ Links.InUse) where
   moved-used : (k : ℕ) → firstMoved i ≤ k → k < 511 → childAt pg k < used
   unfolding relinksIn
   moved-used k h l =
-      let e = in-use-both used (childrenFrom (firstMoved i) (511 - firstMoved i) pg) (pick b (childrenFrom 0 (firstMoved i) pg) []) links .0 in
+      let e = in-use-both used (childrenFrom pg (firstMoved i) (511 - firstMoved i)) (pick b (childrenFrom pg 0 (firstMoved i)) []) links .0 in
       in-use-child used (511 - firstMoved i) (firstMoved i) pg e k h (omega arith)
 
   kept-used : b ≡ true → (k : ℕ) → k < firstMoved i → childAt pg k < used
   unfolding relinksIn
   kept-used t k h =
-      let e = in-use-both used (childrenFrom (firstMoved i) (511 - firstMoved i) pg) (pick b (childrenFrom 0 (firstMoved i) pg) []) links .1 in
+      let e = in-use-both used (childrenFrom pg (firstMoved i) (511 - firstMoved i)) (pick b (childrenFrom pg 0 (firstMoved i)) []) links .1 in
       in-use-child used (firstMoved i) 0 pg (rw t at e) k (omega arith) (omega arith)
 
 -- ---- the pages above, while those below them divide
@@ -180,8 +180,8 @@ module _ (used i : ℕ) (pg : List ℕ) (b : Bool) (links : inUse used (relinksI
 -- s is the pool before; g is where the page new, not in use before, is to be entered above old
 record Stage (s : List ℕ) (used root old : ℕ) (ps : List ℕ) (new : ℕ) (g : Grown) : Type 0 where
   stands : Stands used old ps s
-  alike : (x : ℕ) → mem x ps ≡ true → Alike (page x (g .pool)) (page x s)
-  links : inUse used (relinks old ps s) ≡ Links.InUse
+  alike : (x : ℕ) → mem x ps ≡ true → Alike (page (g .pool) x) (page s x)
+  links : inUse used (relinks s old ps) ≡ Links.InUse
   ends : Ends root old ps
   later : used ≤ new
   fresh : new < g .state .used
@@ -191,17 +191,17 @@ record Stage (s : List ℕ) (used root old : ℕ) (ps : List ℕ) (new : ℕ) (g
 
 module _ (s : List ℕ) (used root : ℕ) where
   -- a page above has 510 keys
-  module _ (old p : ℕ) (ps : List ℕ) (sep new : ℕ) (g : Grown) (st : Stage s used root old (p ∷ ps) new g) (full : cellCount (page p (g .pool)) ≡ 510) where
+  module _ (old p : ℕ) (ps : List ℕ) (sep new : ℕ) (g : Grown) (st : Stage s used root old (p ∷ ps) new g) (full : cellCount (page (g .pool) p) ≡ 510) where
     abbrev i : ℕ
-    i = placeIn old (page p (g .pool))
+    i = placeIn (page (g .pool) p) old
 
     abbrev g₁ : Grown
     g₁ = grown (linked new p (g .pool)) (g .state)
 
-    here : Alike (page p (g .pool)) (page p s)
+    here : Alike (page (g .pool) p) (page s p)
     here = st .alike p (mem-first p ps)
 
-    full-before : cellCount (page p s) ≡ 510
+    full-before : cellCount (page s p) ≡ 510
     full-before = sym (here .count) ∙ full
 
     stands-up : Stands used p ps s
@@ -212,9 +212,9 @@ module _ (s : List ℕ) (used root : ℕ) where
     unfolding Stands
     place = rw (alike-place old here) (omega (arith, st .stands .3, full-before))
 
-    links-here : (inUse used (relinksIn (placeIn old (page p s)) (keepsNumber p ps) (page p s)) ≡ Links.InUse) × (inUse used (relinks p ps s) ≡ Links.InUse)
+    links-here : (inUse used (relinksIn (page s p) (placeIn (page s p) old) (keepsNumber p ps)) ≡ Links.InUse) × (inUse used (relinks s p ps) ≡ Links.InUse)
     links-here =
-        in-use-both used (relinksIn (placeIn old (page p s)) (keepsNumber p ps) (page p s)) (relinks p ps s) (rw (relinks-step old p ps s full-before) at (st .links))
+        in-use-both used (relinksIn (page s p) (placeIn (page s p) old) (keepsNumber p ps)) (relinks s p ps) (rw (relinks-step old p ps s full-before) at (st .links))
 
     asked : pagesAsked root (divisionOf (p ∷ ps) s) ≡ suc (pagesAsked root (divisionOf ps s))
     asked = asked-step old p ps s full-before root
@@ -222,7 +222,7 @@ module _ (s : List ℕ) (used root : ℕ) where
     like : Like (g₁ .pool) (g .pool)
     like = like-linked new p (g .pool) (omega (arith, st .fresh, st .room .1))
 
-    child-same : (k : ℕ) → childAt (page p (g₁ .pool)) k ≡ childAt (page p s) k
+    child-same : (k : ℕ) → childAt (page (g₁ .pool) p) k ≡ childAt (page s p) k
     child-same k = like .each p .child k ∙ here .child k
 
     free : Free g₁
@@ -231,13 +231,13 @@ module _ (s : List ℕ) (used root : ℕ) where
     low : p < g .state .used
     low = omega (arith, stands-low used s p ps stands-up, st .later, st .fresh)
 
-    full₁ : cellCount (page p (g₁ .pool)) ≡ 510
+    full₁ : cellCount (page (g₁ .pool) p) ≡ 510
     full₁ = like .each p .count ∙ full
 
-    moved : (k : ℕ) → firstMoved i ≤ k → k < 511 → childAt (page p (g₁ .pool)) k < g .state .used
+    moved : (k : ℕ) → firstMoved i ≤ k → k < 511 → childAt (page (g₁ .pool) p) k < g .state .used
     moved k =
         rw (alike-place old here, child-same k) (λ h l.
-        omega (arith, moved-used used (placeIn old (page p s)) (page p s) (keepsNumber p ps) (links-here .0) k h l, st .later, st .fresh))
+        omega (arith, moved-used used (placeIn (page s p) old) (page s p) (keepsNumber p ps) (links-here .0) k h l, st .later, st .fresh))
 
     step-safe : HalvedSafe p i sep new g₁
     step-safe = halved-safe p i sep new g₁ free low place full₁ (st .fresh) moved
@@ -249,17 +249,17 @@ module _ (s : List ℕ) (used root : ℕ) where
     step-ready : (root ≡ 0 → ⊥) → ps ≡ [] → Ready p (halved p i sep new g₁ .pool)
     step-ready z none kind =
         let a = halved-here p i sep new g₁ free low place full₁ (st .fresh) moved in
-        let len : length (page p (g₁ .pool)) ≡ 4096 = length-page p (g₁ .pool) (omega (arith, free .1, low)) in
-        let c : cellCount (page p (halved p i sep new g₁ .pool)) ≡ 255 = a .count ∙ left-count i sep new (page p (g₁ .pool)) len full₁ place in
+        let len : length (page (g₁ .pool) p) ≡ 4096 = length-page p (g₁ .pool) (omega (arith, free .1, low)) in
+        let c : cellCount (page (halved p i sep new g₁ .pool) p) ≡ 255 = a .count ∙ left-count i sep new (page (g₁ .pool) p) len full₁ place in
         let e : p ≡ root = rw none at (st .ends) in
         let t : keepsNumber p ps ≡ true = rw (none, e, ne-eqb root 0 z) in
-        let kept : (k : ℕ) → k < firstMoved i → childAt (page p (g₁ .pool)) k < g .state .used =
+        let kept : (k : ℕ) → k < firstMoved i → childAt (page (g₁ .pool) p) k < g .state .used =
         λ k. rw (alike-place old here, child-same k) (λ h.
-        omega (arith, kept-used used (placeIn old (page p s)) (page p s) (keepsNumber p ps) (links-here .0) t k h, st .later, st .fresh)) in (
+        omega (arith, kept-used used (placeIn (page s p) old) (page s p) (keepsNumber p ps) (links-here .0) t k h, st .later, st .fresh)) in (
           omega arith,
           λ k h.
-              let b : childAt (leftHalf i sep new (page p (g₁ .pool))) k < g .state .used =
-              left-below i sep new (page p (g₁ .pool)) len full₁ place (g .state .used) (st .fresh) (omega (arith, free .0)) kept k (omega arith) in
+              let b : childAt (leftHalf i sep new (page (g₁ .pool) p)) k < g .state .used =
+              left-below i sep new (page (g₁ .pool) p) len full₁ place (g .state .used) (st .fresh) (omega (arith, free .0)) kept k (omega arith) in
               rw (a .child k, long) (omega (arith, st .room .1, asked)),
         )
 
@@ -331,16 +331,16 @@ module _ (s : List ℕ) (used root : ℕ) where
       ((omega (arith, free .1), omega (arith, free .1, st .fresh), free), λ z ne. top-pin old sep new g st z)
 
   above-step : (p : ℕ) (ps : List ℕ) (old sep new : ℕ) (g : Grown) → Stage s used root old (p ∷ ps) new g
-      → (cellCount (page p (g .pool)) ≡ 510
-      → Above ps p (middleKey (placeIn old (page p (g .pool))) sep new (page p (linked new p (g .pool)))) (nextPage (linked new p (g .pool)) (g .state))
-      (halved p (placeIn old (page p (g .pool))) sep new (grown (linked new p (g .pool)) (g .state))))
+      → (cellCount (page (g .pool) p) ≡ 510
+      → Above ps p (middleKey (placeIn (page (g .pool) p) old) sep new (page (linked new p (g .pool)) p)) (nextPage (linked new p (g .pool)) (g .state))
+      (halved p (placeIn (page (g .pool) p) old) sep new (grown (linked new p (g .pool)) (g .state))))
       → Above (p ∷ ps) old sep new g
   unfolding EnterSafe enterOf Stands
   above-step p ps old sep new g st on =
       let h = st .stands in
       let a = st .alike p (mem-first p ps) in
       let low = stands-low used s p ps (h .4) in
-      let few : cellCount (page p (g .pool)) ≤ 510 = rw (a .count) (h .2) in (
+      let few : cellCount (page (g .pool) p) ≤ 510 = rw (a .count) (h .2) in (
         (
           omega (arith, h .0, st .later, st .fresh, st .room .1),
           omega (arith, st .fresh, st .room .1),
@@ -349,8 +349,8 @@ module _ (s : List ℕ) (used root : ℕ) where
           rw (alike-place old a, a .count) (h .3),
           λ e. (step-safe old p ps sep new g st e, on e .0),
         ),
-        λ z. pins-pick (ltb (cellCount (page p (g .pool))) 510) _ _ (joined-root p old sep new g ∙ st .same) (λ f.
-            let n = ltb-false (cellCount (page p (g .pool))) 510 f in
+        λ z. pins-pick (ltb (cellCount (page (g .pool) p)) 510) _ _ (joined-root p old sep new g ∙ st .same) (λ f.
+            let n = ltb-false (cellCount (page (g .pool) p)) 510 f in
             on (omega arith) .1 z),
       )
 

@@ -49,22 +49,22 @@ alike-root v pg =
       child = λ k. leAt-putAt-above 4 1 pg 1 v (12 + 8 * k) (omega arith);
     }
 
-alike-from : {a b : List ℕ} (n i : ℕ) → Alike a b → childrenFrom i n a ≡ childrenFrom i n b
+alike-from : {a b : List ℕ} (n i : ℕ) → Alike a b → childrenFrom a i n ≡ childrenFrom b i n
 unfolding childrenFrom
 alike-from zero i h = refl
 alike-from (suc n) i h = ap₂ (λ (x : ℕ) (l : List ℕ). x ∷ l) (h .child i) (alike-from n (i + 1) h)
 
 pub alike-children : {a b : List ℕ} → Alike a b → childrenOf a ≡ childrenOf b
-alike-children {a} {b} h = ap (λ (n : ℕ). childrenFrom 0 (n + 1) a) (h .count) ∙ alike-from (cellCount b + 1) 0 h
+alike-children {a} {b} h = ap (λ (n : ℕ). childrenFrom a 0 (n + 1)) (h .count) ∙ alike-from (cellCount b + 1) 0 h
 
-pub alike-place : (old : ℕ) {a b : List ℕ} → Alike a b → placeIn old a ≡ placeIn old b
+pub alike-place : (old : ℕ) {a b : List ℕ} → Alike a b → placeIn a old ≡ placeIn b old
 alike-place old h = rw (alike-children h)
 
 -- ---- pools
 
 pub record Like (s t : List ℕ) : Type 0 where
   pub long : length s ≡ length t
-  pub each : (x : ℕ) → Alike (page x s) (page x t)
+  pub each : (x : ℕ) → Alike (page s x) (page t x)
 
 pub like-refl : {s : List ℕ} → Like s s
 like-refl = record { long = refl; each = λ x. alike-eq refl }
@@ -78,14 +78,14 @@ like-there c l h = rw (l .long) h
 -- a link changes no page by more
 pub like-linked : (c q : ℕ) (s : List ℕ) → There c s → Like (linked c q s) s
 like-linked c q s h =
-    let len : length (withParent q (page c s)) ≡ 4096 = length-putAt 4 (page c s) 2 q ∙ length-page c s h in
-    record { long = length-setPage c (withParent q (page c s)) s h len; each = λ x. by-page x len (eqb x c) refl }
+    let len : length (withParent q (page s c)) ≡ 4096 = length-putAt 4 (page s c) 2 q ∙ length-page c s h in
+    record { long = length-setPage c (withParent q (page s c)) s h len; each = λ x. by-page x len (eqb x c) refl }
   where
-    by-page : (x : ℕ) → length (withParent q (page c s)) ≡ 4096 → (b : Bool) → eqb x c ≡ b → Alike (page x (linked c q s)) (page x s)
+    by-page : (x : ℕ) → length (withParent q (page s c)) ≡ 4096 → (b : Bool) → eqb x c ≡ b → Alike (page (linked c q s) x) (page s x)
     by-page x len true e =
         let f = eqb-true x c e in
-        rw f (alike-trans (alike-eq (page-setPage c (withParent q (page c s)) s h len)) (alike-parent q (page c s)))
-    by-page x len false e = alike-eq (page-setPage-other c (withParent q (page c s)) s h len x (eqb-false x c e))
+        rw f (alike-trans (alike-eq (page-setPage c (withParent q (page s c)) s h len)) (alike-parent q (page s c)))
+    by-page x len false e = alike-eq (page-setPage-other c (withParent q (page s c)) s h len x (eqb-false x c e))
 
 pub like-both : (old new q : ℕ) (s : List ℕ) → There old s → There new s → Like (linkedBoth old new q s) s
 like-both old new q s h k =
@@ -95,26 +95,26 @@ like-both old new q s h k =
 -- ---- children that are there can be adopted, and no page changes by more than its link
 
 abbrev pub ChildrenThere : (n i p : ℕ) → List ℕ → Type 0
-ChildrenThere n i p s = (k : ℕ) → i ≤ k → k < i + n → There (childAt (page p s) k) s
+ChildrenThere n i p s = (k : ℕ) → i ≤ k → k < i + n → There (childAt (page s p) k) s
 
 module _ (n i p q : ℕ) (s : List ℕ) (all : ChildrenThere (suc n) i p s) where
-  first-there : There (childAt (page p s) i) s
+  first-there : There (childAt (page s p) i) s
   first-there = all i (omega arith) (omega arith)
 
-  rest-there : ChildrenThere n (i + 1) p (linked (childAt (page p s) i) q s)
+  rest-there : ChildrenThere n (i + 1) p (linked (childAt (page s p) i) q s)
   rest-there k h l =
-      let a = like-linked (childAt (page p s) i) q s first-there in
+      let a = like-linked (childAt (page s p) i) q s first-there in
       like-there _ a (rw (a .each p .child k) (all k (omega arith) (omega arith)))
 
 pub adopt-all : (n i p q : ℕ) (s : List ℕ) → ChildrenThere n i p s → AdoptSafe n i p q s
 unfolding AdoptSafe
 adopt-all zero i p q s all = tt
 adopt-all (suc n) i p q s all =
-    (first-there n i p q s all, adopt-all n (i + 1) p q (linked (childAt (page p s) i) q s) (rest-there n i p q s all))
+    (first-there n i p q s all, adopt-all n (i + 1) p q (linked (childAt (page s p) i) q s) (rest-there n i p q s all))
 
 pub like-adopted : (n i p q : ℕ) (s : List ℕ) → ChildrenThere n i p s → Like (adopted n i p q s) s
 unfolding adopted
 like-adopted zero i p q s all = like-refl
 like-adopted (suc n) i p q s all =
-    like-trans (like-adopted n (i + 1) p q (linked (childAt (page p s) i) q s) (rest-there n i p q s all))
-    (like-linked (childAt (page p s) i) q s (first-there n i p q s all))
+    like-trans (like-adopted n (i + 1) p q (linked (childAt (page s p) i) q s) (rest-there n i p q s all))
+    (like-linked (childAt (page s p) i) q s (first-there n i p q s all))

@@ -63,15 +63,15 @@ first-few i e = rw e (by-place (ltb i 255))
 -- ---- children in use: a turn of the loop, and its ways out
 
 module _ (used i n m : ℕ) (pg : List ℕ) {c : ℕ} (e : n ≡ suc m) (is : c ≡ childAt pg i) where
-  pub use-bad : {f : Fault} → used ≤ c → f ≡ structural c → Links.Bad f ≡ inUse used (childrenFrom i n pg)
+  pub use-bad : {f : Fault} → used ≤ c → f ≡ structural c → Links.Bad f ≡ inUse used (childrenFrom pg i n)
   unfolding inUse childrenFrom
   use-bad h u = rw (e, ← is, le-ltb c used h, u)
 
-  pub use-turn : c < used → inUse used (childrenFrom (i + 1) m pg) ≡ inUse used (childrenFrom i n pg)
+  pub use-turn : c < used → inUse used (childrenFrom pg (i + 1) m) ≡ inUse used (childrenFrom pg i n)
   unfolding inUse childrenFrom
   use-turn h = rw (e, ← is, lt-ltb c used h)
 
-pub use-end : (used i n : ℕ) (pg : List ℕ) → n ≤ 0 → Links.InUse ≡ inUse used (childrenFrom i n pg)
+pub use-end : (used i n : ℕ) (pg : List ℕ) → n ≤ 0 → Links.InUse ≡ inUse used (childrenFrom pg i n)
 unfolding inUse childrenFrom
 use-end used i zero pg h = refl
 use-end used i (suc n) pg h = absurd (omega arith)
@@ -88,18 +88,18 @@ use-append used (x ∷ xs) ys = by-use (use-append used xs ys) (ltb x used)
     by-use e true = e
     by-use e false = refl
 
-module _ (used i : ℕ) (relocated : Bool) (pg : List ℕ) {k : ℕ} {r : Links} (first : k ≡ firstMoved i) (moved : r ≡ inUse used (childrenFrom k (511 - k) pg)) where
-  pub in-bad : {f : Fault} → r ≡ Links.Bad f → Links.Bad f ≡ inUse used (relinksIn i relocated pg)
+module _ (used i : ℕ) (relocated : Bool) (pg : List ℕ) {k : ℕ} {r : Links} (first : k ≡ firstMoved i) (moved : r ≡ inUse used (childrenFrom pg k (511 - k))) where
+  pub in-bad : {f : Fault} → r ≡ Links.Bad f → Links.Bad f ≡ inUse used (relinksIn pg i relocated)
   unfolding relinksIn
-  in-bad e = sym (use-append used (childrenFrom (firstMoved i) (511 - firstMoved i) pg) _ ∙ rw (← first, sym moved ∙ e))
+  in-bad e = sym (use-append used (childrenFrom pg (firstMoved i) (511 - firstMoved i)) _ ∙ rw (← first, sym moved ∙ e))
 
-  pub in-all : {q : Links} → r ≡ Links.InUse → relocated ≡ true → q ≡ inUse used (childrenFrom 0 k pg) → q ≡ inUse used (relinksIn i relocated pg)
+  pub in-all : {q : Links} → r ≡ Links.InUse → relocated ≡ true → q ≡ inUse used (childrenFrom pg 0 k) → q ≡ inUse used (relinksIn pg i relocated)
   unfolding relinksIn
-  in-all e h f = sym (use-append used (childrenFrom (firstMoved i) (511 - firstMoved i) pg) _ ∙ rw (← first, sym moved ∙ e, h, ← f))
+  in-all e h f = sym (use-append used (childrenFrom pg (firstMoved i) (511 - firstMoved i)) _ ∙ rw (← first, sym moved ∙ e, h, ← f))
 
-  pub in-moved : r ≡ Links.InUse → relocated ≡ false → Links.InUse ≡ inUse used (relinksIn i relocated pg)
+  pub in-moved : r ≡ Links.InUse → relocated ≡ false → Links.InUse ≡ inUse used (relinksIn pg i relocated)
   unfolding relinksIn inUse
-  in-moved e h = sym (use-append used (childrenFrom (firstMoved i) (511 - firstMoved i) pg) _ ∙ rw (← first, sym moved ∙ e, h))
+  in-moved e h = sym (use-append used (childrenFrom pg (firstMoved i) (511 - firstMoved i)) _ ∙ rw (← first, sym moved ∙ e, h))
 
 -- ---- the pages above, from a path
 
@@ -123,7 +123,7 @@ above-none path level h = part-none (level + 1) (path .len - (level + 1)) (path 
 pub record Next (used : ℕ) (path : Path) (level : ℕ) (s : List ℕ) : Type 0 where
   pub is : pagesAbove path level ≡ pageAt path (level + 1) ∷ pagesAbove path (level + 1)
   pub in-use : pageAt path (level + 1) < used
-  pub few : cellCount (page (pageAt path (level + 1)) s) ≤ 510
+  pub few : cellCount (page s (pageAt path (level + 1))) ≤ 510
   pub stands : Stands used (pageAt path (level + 1)) (pagesAbove path (level + 1)) s
   pub keeps : (eqb (level + 2) (path .len) && not (eqb (pageAt path (level + 1)) 0)) ≡ keepsNumber (pageAt path (level + 1)) (pagesAbove path (level + 1))
 
@@ -133,7 +133,7 @@ stands-used used old [] s h = h
 stands-used used old (p ∷ ps) s h = h .0
 
 module _ (used old p : ℕ) (ps s : List ℕ) (h : Stands used old (p ∷ ps) s) where
-  stands-few : cellCount (page p s) ≤ 510
+  stands-few : cellCount (page s p) ≤ 510
   unfolding Stands
   stands-few = h .2
 
@@ -165,20 +165,20 @@ next-is used path level s four few more h =
 unfoldable pub planFrom : (full used old : ℕ) → List ℕ → List ℕ → Plan
 planFrom full used old [] s = Plan.Ok (record { full = full; grows = true })
 planFrom full used old (p ∷ ps) s =
-    pick (eqb (cellCount (page p s)) 510)
-    (onLinks (planFrom (full + 1) used p ps s) (λ f. Plan.Bad f) (inUse used (relinksIn (placeIn old (page p s)) (keepsNumber p ps) (page p s))))
+    pick (eqb (cellCount (page s p)) 510)
+    (onLinks (planFrom (full + 1) used p ps s) (λ f. Plan.Bad f) (inUse used (relinksIn (page s p) (placeIn (page s p) old) (keepsNumber p ps))))
     (Plan.Ok (record { full = full; grows = false }))
 
-module _ (full used old : ℕ) (s : List ℕ) {p n : ℕ} {ps qs pg : List ℕ} (up : ps ≡ p ∷ qs) (here : pg ≡ page p s) (count : n ≡ cellCount pg) where
+module _ (full used old : ℕ) (s : List ℕ) {p n : ℕ} {ps qs pg : List ℕ} (up : ps ≡ p ∷ qs) (here : pg ≡ page s p) (count : n ≡ cellCount pg) where
   pub plan-room : n < 510 → Plan.Ok (record { full = full; grows = false }) ≡ planFrom full used old ps s
   unfolding planFrom
   plan-room h = rw (up, ← here, ← count, ne-eqb n 510 (λ e. omega arith))
 
-  module _ {i : ℕ} {b : Bool} {r : Links} (few : cellCount (page p s) ≤ 510) (many : 510 ≤ n) (place : i ≡ childPlace old (childrenFrom 0 511 pg)) (keeps : b ≡ keepsNumber p qs) (judged : r ≡ inUse used (relinksIn i b pg)) where
+  module _ {i : ℕ} {b : Bool} {r : Links} (few : cellCount (page s p) ≤ 510) (many : 510 ≤ n) (place : i ≡ childPlace old (childrenFrom pg 0 511)) (keeps : b ≡ keepsNumber p qs) (judged : r ≡ inUse used (relinksIn pg i b)) where
     all : n ≡ 510
-    all = let e : n ≡ cellCount (page p s) = count ∙ ap cellCount here in omega arith
+    all = let e : n ≡ cellCount (page s p) = count ∙ ap cellCount here in omega arith
 
-    same : inUse used (relinksIn (placeIn old pg) (keepsNumber p qs) pg) ≡ r
+    same : inUse used (relinksIn pg (placeIn pg old) (keepsNumber p qs)) ≡ r
     same = rw (← count, all, ← place, ← keeps, ← judged)
 
     pub plan-bad : {f : Fault} → r ≡ Links.Bad f → Plan.Bad f ≡ planFrom full used old ps s
@@ -212,13 +212,13 @@ one-more full k n false r l = rw (eqb·zero-suc n, add-zero full)
 
 from-is : (full used old : ℕ) (ps s : List ℕ)
     → planFrom full used old ps s
-    ≡ onLinks (Plan.Ok (record { full = full + fullPages ps s; grows = eqb (fullPages ps s) (length ps) })) (λ f. Plan.Bad f) (inUse used (relinks old ps s))
+    ≡ onLinks (Plan.Ok (record { full = full + fullPages ps s; grows = eqb (fullPages ps s) (length ps) })) (λ f. Plan.Bad f) (inUse used (relinks s old ps))
 unfolding planFrom fullPages relinks inUse
 from-is full used old [] s = rw (add-zero full)
 from-is full used old (p ∷ ps) s =
-    let b = eqb (cellCount (page p s)) 510 in
-    let xs = relinksIn (placeIn old (page p s)) (keepsNumber p ps) (page p s) in
-    rw (from-is (full + 1) used p ps s, use-pick used b xs (relinks p ps s)) (one-more full (fullPages ps s) (length ps) b (inUse used xs) (inUse used (relinks p ps s)))
+    let b = eqb (cellCount (page s p)) 510 in
+    let xs = relinksIn (page s p) (placeIn (page s p) old) (keepsNumber p ps) in
+    rw (from-is (full + 1) used p ps s, use-pick used b xs (relinks s p ps)) (one-more full (fullPages ps s) (length ps) b (inUse used xs) (inUse used (relinks s p ps)))
 
 pub plan-is : (used old : ℕ) (ps s : List ℕ) → planFrom 0 used old ps s ≡ planOf s used old ps
 unfolding planOf divisionOf

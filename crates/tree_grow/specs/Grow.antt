@@ -17,7 +17,7 @@ use Rattle.inner_edit.specs.Edit.{withEntry, leftHalf, middleKey, rightHalf, to
 
 -- page c gets the parent q; two pages do, the first one first
 abbrev pub linked : (c q : ℕ) → List ℕ → List ℕ
-linked c q s = setPage c (withParent q (page c s)) s
+linked c q s = setPage c (withParent q (page s c)) s
 
 abbrev pub linkedBoth : (old new q : ℕ) → List ℕ → List ℕ
 linkedBoth old new q s = linked new q (linked old q s)
@@ -27,42 +27,42 @@ unfoldable pub topOver : (old sep new : ℕ) → Grown → Grown
 topOver old sep new g = topAt (nextPage (g .pool) (g .state)) (withFresh (g .pool) (g .state)) (allocated (g .pool) (g .state) .state)
   where
     topAt : ℕ → List ℕ → State → Grown
-    topAt t s st = grown (linkedBoth old new t (setPage t (topPage old sep new (page t s)) s)) (record { root = t; used = st .used })
+    topAt t s st = grown (linkedBoth old new t (setPage t (topPage old sep new (page s t)) s)) (record { root = t; used = st .used })
 
 -- the place of the child old in page p: the first one
-abbrev pub placeIn : (old : ℕ) → List ℕ → ℕ
-placeIn old pg = childPlace old (childrenOf pg)
+abbrev pub placeIn : List ℕ → (old : ℕ) → ℕ
+placeIn pg old = childPlace old (childrenOf pg)
 
 -- page p has room: the pair directly after old, and both linked to p
 unfoldable pub joinedTo : (p old sep new : ℕ) → Grown → Grown
 joinedTo p old sep new g =
-    grown (linkedBoth old new p (setPage p (withEntry (placeIn old (page p (g .pool))) sep new (page p (g .pool))) (g .pool))) (g .state)
+    grown (linkedBoth old new p (setPage p (withEntry (placeIn (page (g .pool) p) old) sep new (page (g .pool) p)) (g .pool))) (g .state)
 
 -- page p has 510 keys and a pair to come after child i: half of it goes to the next page, whose children are linked to it
 unfoldable pub halved : (p i sep new : ℕ) → Grown → Grown
 halved p i sep new g = halvedAt (nextPage (g .pool) (g .state)) (withFresh (g .pool) (g .state)) (allocated (g .pool) (g .state) .state)
   where
     halvedAt : ℕ → List ℕ → State → Grown
-    halvedAt q s st = grown (adopted 256 0 q q (setPage p (leftHalf i sep new (page p s)) (setPage q (rightHalf i sep new (page p s) (page q s)) s))) st
+    halvedAt q s st = grown (adopted 256 0 q q (setPage p (leftHalf i sep new (page s p)) (setPage q (rightHalf i sep new (page s p) (page s q)) s))) st
 
 -- the separator and the page new are entered above the page old; ps are the pages above it, the nearest first
 unfoldable pub enterOf : (ps : List ℕ) → (old sep new : ℕ) → Grown → Grown
 enterOf [] old sep new g = topOver old sep new g
 enterOf (p ∷ ps) old sep new g =
-    pick (ltb (cellCount (page p (g .pool))) maxKeys) (joinedTo p old sep new g)
-    (enterOf ps p (middleKey (placeIn old (page p (g .pool))) sep new (page p (linked new p (g .pool)))) (nextPage (linked new p (g .pool)) (g .state))
-    (halved p (placeIn old (page p (g .pool))) sep new (grown (linked new p (g .pool)) (g .state))))
+    pick (ltb (cellCount (page (g .pool) p)) maxKeys) (joinedTo p old sep new g)
+    (enterOf ps p (middleKey (placeIn (page (g .pool) p) old) sep new (page (linked new p (g .pool)) p)) (nextPage (linked new p (g .pool)) (g .state))
+    (halved p (placeIn (page (g .pool) p) old) sep new (grown (linked new p (g .pool)) (g .state))))
 
 -- ---- "Any other root keeps its number: the new top's content goes to it, its old image, is-root cleared, to one more
 -- page, and the spent top page is lost"
 
 -- the image of the page fixed in page z
 abbrev pub movedTo : (fixed z : ℕ) → List ℕ → List ℕ
-movedTo fixed z s = setPage z (withParent fixed (withIsRoot 0 (page fixed s))) s
+movedTo fixed z s = setPage z (withParent fixed (withIsRoot 0 (page s fixed))) s
 
 -- the children of an internal page z are linked to it
 unfoldable pub relinked : (z : ℕ) → List ℕ → List ℕ
-relinked z s = pick (eqb (nodeType (page z s)) nodeInternal) (adopted (cellCount (page z s) + 1) 0 z z s) s
+relinked z s = pick (eqb (nodeType (page s z)) nodeInternal) (adopted (cellCount (page s z) + 1) 0 z z s) s
 
 -- the top's content in the page that was the root; its bytes 8 to 11 stay
 abbrev pub topIn : (left sep right : ℕ) → List ℕ → List ℕ
@@ -70,12 +70,12 @@ topIn left sep right pg = topPage left sep right (withParent 0 (withNodeType nod
 
 unfoldable pub pinOf : (fixed : ℕ) → Grown → Grown
 pinOf fixed g =
-    pinAt (nextPage (g .pool) (g .state)) (keyAt (page (g .state .root) (g .pool)) 0) (childAt (page (g .state .root) (g .pool)) 1)
+    pinAt (nextPage (g .pool) (g .state)) (keyAt (page (g .pool) (g .state .root)) 0) (childAt (page (g .pool) (g .state .root)) 1)
     (withFresh (g .pool) (g .state))
     (allocated (g .pool) (g .state) .state)
   where
     topped : (z sep new : ℕ) → List ℕ → List ℕ
-    topped z sep new s = linkedBoth z new fixed (setPage fixed (topIn z sep new (page fixed s)) s)
+    topped z sep new s = linkedBoth z new fixed (setPage fixed (topIn z sep new (page s fixed)) s)
 
     pinAt : (z sep new : ℕ) → List ℕ → State → Grown
     pinAt z sep new s st = grown (topped z sep new (relinked z (movedTo fixed z s))) (record { root = fixed; used = st .used })
@@ -86,4 +86,4 @@ keptRoot original g = pick (eqb original 0) g (pick (eqb (g .state .root) origin
 
 -- the leaf p has divided, and page q is its right side, whose first key goes up
 unfoldable pub settled : (ps : List ℕ) → (p q : ℕ) → Grown → Grown
-settled ps p q g = keptRoot (g .state .root) (enterOf ps p (rankAt (page q (g .pool)) headerSize) q g)
+settled ps p q g = keptRoot (g .state .root) (enterOf ps p (rankAt (page (g .pool) q) headerSize) q g)

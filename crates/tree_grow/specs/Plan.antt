@@ -21,7 +21,7 @@ use Rattle.inner_edit.specs.Edit.{keptKeys}
 -- the pages that divide: those with 510 keys, from the nearest on
 unfoldable pub fullPages : List ℕ → List ℕ → ℕ
 fullPages [] s = 0
-fullPages (p ∷ ps) s = pick (eqb (cellCount (page p s)) maxKeys) (suc (fullPages ps s)) 0
+fullPages (p ∷ ps) s = pick (eqb (cellCount (page s p)) maxKeys) (suc (fullPages ps s)) 0
 
 -- the root grows where they all divide
 unfoldable pub divisionOf : List ℕ → List ℕ → Division
@@ -37,8 +37,8 @@ abbrev pub firstMoved : ℕ → ℕ
 firstMoved i = pick (ltb i keptKeys) keptKeys 256
 
 -- its children that get a new parent link: those that go, and those that stay too where it is a root that is relocated
-unfoldable pub relinksIn : (i : ℕ) → (relocated : Bool) → List ℕ → List ℕ
-relinksIn i relocated pg = childrenFrom (firstMoved i) (511 - firstMoved i) pg ++ pick relocated (childrenFrom 0 (firstMoved i) pg) []
+unfoldable pub relinksIn : List ℕ → (i : ℕ) → (relocated : Bool) → List ℕ
+relinksIn pg i relocated = childrenFrom pg (firstMoved i) (511 - firstMoved i) ++ pick relocated (childrenFrom pg 0 (firstMoved i)) []
 
 -- "Any other root keeps its number": the page p, with the pages ps above it, is one
 abbrev pub keepsNumber : ℕ → List ℕ → Bool
@@ -46,9 +46,9 @@ keepsNumber p [] = not (eqb p 0)
 keepsNumber p (q ∷ qs) = false
 
 -- all of them, the nearest page's first
-unfoldable pub relinks : (old : ℕ) → List ℕ → List ℕ → List ℕ
-relinks old [] s = []
-relinks old (p ∷ ps) s = pick (eqb (cellCount (page p s)) maxKeys) (relinksIn (placeIn old (page p s)) (keepsNumber p ps) (page p s) ++ relinks p ps s) []
+unfoldable pub relinks : List ℕ → (old : ℕ) → List ℕ → List ℕ
+relinks s old [] = []
+relinks s old (p ∷ ps) = pick (eqb (cellCount (page s p)) maxKeys) (relinksIn (page s p) (placeIn (page s p) old) (keepsNumber p ps) ++ relinks s p ps) []
 
 -- "must be a page in use": all are, or the first that is not
 unfoldable pub inUse : (used : ℕ) → List ℕ → Links
@@ -61,4 +61,4 @@ onLinks good ill (Links.Bad f) = ill f
 
 -- what the division of the page old leads to, or the fault
 unfoldable pub planOf : List ℕ → (used old : ℕ) → List ℕ → Plan
-planOf s used old ps = onLinks (Plan.Ok (divisionOf ps s)) (λ f. Plan.Bad f) (inUse used (relinks old ps s))
+planOf s used old ps = onLinks (Plan.Ok (divisionOf ps s)) (λ f. Plan.Bad f) (inUse used (relinks s old ps))

@@ -44,8 +44,8 @@ fn grow_top(pool: &mut [u8], st: State, old: u32, sep: u32, new: u32) -> State
 
 // The pair directly after child i of page p, which has n keys and room for one.
 fn join(pool: &mut [u8], p: u32, i: usize, n: usize, old: u32, sep: u32, new: u32)
-    requires { ⌜ There p (now pool) × There old (now pool) × There new (now pool) × (n ≡ cellCount (page p (now pool))) × (i ≤ n) × (n < 510) ⌝ }
-    ensures { λ _. ⌜ now (pool .exit) ≡ linkedBoth old new p (setPage p (withEntry i sep new (page p (now (pool .entry)))) (now (pool .entry))) ⌝ }
+    requires { ⌜ There p (now pool) × There old (now pool) × There new (now pool) × (n ≡ cellCount (page (now pool) p)) × (i ≤ n) × (n < 510) ⌝ }
+    ensures { λ _. ⌜ now (pool .exit) ≡ linkedBoth old new p (setPage p (withEntry i sep new (page (now (pool .entry)) p)) (now (pool .entry))) ⌝ }
 {
     let b = p as usize * PAGE_SIZE;
     let e = b + PAGE_SIZE;
@@ -129,7 +129,7 @@ fn relink(pool: &mut [u8], z: u32)
 
 fn write_root(pool: &mut [u8], fixed: u32, left: u32, sep: u32, right: u32)
     requires { ⌜ There fixed (now pool) ⌝ }
-    ensures { λ _. ⌜ now (pool .exit) ≡ setPage fixed (topIn left sep right (page fixed (now (pool .entry)))) (now (pool .entry)) ⌝ }
+    ensures { λ _. ⌜ now (pool .exit) ≡ setPage fixed (topIn left sep right (page (now (pool .entry)) fixed)) (now (pool .entry)) ⌝ }
 {
     let a = fixed as usize * PAGE_SIZE;
     let e = a + PAGE_SIZE;
@@ -177,7 +177,7 @@ fn keep_root(pool: &mut [u8], st: State, original: u32) -> State
 // The leaf at the path's start has divided, and page q is its right side, whose first key goes up.
 pub fn settle(pool: &mut [u8], st: State, path: Path, q: u32) -> State
     requires { ⌜ (0 < path .len) × (path .len ≤ 4) × There q (now pool) ⌝ }
-    requires { ⌜ AboveSafe (st .root) (pageAt path 0) (rankAt (page q (now pool)) 12) q (pagesAbove path 0) (grown (now pool) st) ⌝ }
+    requires { ⌜ AboveSafe (st .root) (pageAt path 0) (rankAt (page (now pool) q) 12) q (pagesAbove path 0) (grown (now pool) st) ⌝ }
     ensures { λ r. ⌜ grown (now (pool .exit)) r ≡ settled (pagesAbove path 0) (pageAt path 0) q (grown (now (pool .entry)) st) ⌝ }
 {
     let sep = page::key::get_rank(page::pool::page_of(pool, q), page::HEADER_SIZE);

@@ -47,7 +47,7 @@ pub fn pages_asked(root: u32, d: Division) -> usize
 // n children from i on.
 fn links_from(pg: &[u8], used: u32, i: usize, n: usize) -> Links
     requires { ⌜ (length (now pg) ≡ 4096) × (i + n ≤ 511) ⌝ }
-    ensures { λ r. ⌜ r ≡ inUse used (childrenFrom i n (now (pg .entry))) ⌝ }
+    ensures { λ r. ⌜ r ≡ inUse used (childrenFrom (now (pg .entry)) i n) ⌝ }
 {
     let mut k = i;
     let mut left = n;
@@ -75,7 +75,7 @@ fn first_moved(i: usize) -> usize
 // The children of a page that divides, with a pair to come after child i.
 fn links_in(pg: &[u8], used: u32, i: usize, relocated: bool) -> Links
     requires { ⌜ length (now pg) ≡ 4096 ⌝ }
-    ensures { λ r. ⌜ r ≡ inUse used (relinksIn i relocated (now (pg .entry))) ⌝ }
+    ensures { λ r. ⌜ r ≡ inUse used (relinksIn (now (pg .entry)) i relocated) ⌝ }
 {
     let first = first_moved(i);
     match links_from(pg, used, first, inner::MAX_CHILDREN - first) {

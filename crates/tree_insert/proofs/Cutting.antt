@@ -60,8 +60,8 @@ pub record Sides (x : Spot) (pg : List ℕ) : Type 0 where
   pub first : List Cell
   pub rest : List Cell
   pub whole : cells pg ≡ first ++ rest
-  pub front : cellsOf (x .place .before) 12 pg ≡ first
-  pub back : cellsOf (cellCount pg - x .place .before) (x .place .at) pg ≡ rest
+  pub front : cellsOf pg (x .place .before) 12 ≡ first
+  pub back : cellsOf pg (cellCount pg - x .place .before) (x .place .at) ≡ rest
   pub chain : Chain pg 12 first
   pub chain-on : Chain pg (x .place .at) rest
   pub before : length first ≡ x .place .before
@@ -69,9 +69,9 @@ pub record Sides (x : Spot) (pg : List ℕ) : Type 0 where
   pub at : endOf 12 first ≡ x .place .at
   pub end : endOf (x .place .at) rest ≡ x .end
 
-pub sides : (used key creator : ℕ) (s : List ℕ) (x : Spot) → SpotIs used key creator s x → Sides x (page (x .leaf) s)
+pub sides : (used key creator : ℕ) (s : List ℕ) (x : Spot) → SpotIs used key creator s x → Sides x (page s (x .leaf))
 sides used key creator s x is =
-    let pg = page (x .leaf) s in
+    let pg = page s (x .leaf) in
     let cs = cells pg in
     let n = is .split .count in
     let count : x .place .before ≡ n = ap (λ y. y .before) (is .place) in
@@ -87,8 +87,8 @@ sides used key creator s x is =
       first = take n cs;
       rest = drop n cs;
       whole = whole;
-      front = ap (λ (k : ℕ). cellsOf k 12 pg) (count ∙ sym l₁) ∙ chain-back pg 12 (take n cs) c₁;
-      back = ap (λ (k : ℕ). cellsOf k (x .place .at) pg) (ap (λ (k : ℕ). cellCount pg - k) count ∙ sym l₂) ∙ chain-back pg (x .place .at) (drop n cs) c₂;
+      front = ap (λ (k : ℕ). cellsOf pg k 12) (count ∙ sym l₁) ∙ chain-back pg 12 (take n cs) c₁;
+      back = ap (λ (k : ℕ). cellsOf pg k (x .place .at)) (ap (λ (k : ℕ). cellCount pg - k) count ∙ sym l₂) ∙ chain-back pg (x .place .at) (drop n cs) c₂;
       chain = c₁;
       chain-on = c₂;
       before = l₁ ∙ sym count;
@@ -98,21 +98,21 @@ sides used key creator s x is =
     }
 
 pub cut-stands : (used key creator : ℕ) (s : List ℕ) (x : Spot) (m : ℕ) → SpotIs used key creator s x → 19 ≤ m → m ≤ 4084 → 4084 < bytesWith x m
-    → cutFits (bytesWith x m) (cutWith x m (page (x .leaf) s)) ≡ true → InsertCutStands x m (cellCount (page (x .leaf) s)) (cutWith x m (page (x .leaf) s))
+    → cutFits (bytesWith x m) (cutWith (page s (x .leaf)) x m) ≡ true → InsertCutStands x m (cellCount (page s (x .leaf))) (cutWith (page s (x .leaf)) x m)
 unfolding cutLeaf
 cut-stands used key creator s x m is lo hi over fits =
-    let pg = page (x .leaf) s in
+    let pg = page s (x .leaf) in
     let d = sides used key creator s x is in
     let xs = sizesOf (d .first) in
     let ys = sizesOf (d .rest) in
     let all = xs ++ (m ∷ ys) in
-    let same : sizesOf (cellsOf (x .place .before) 12 pg) ++ (m ∷ sizesOf (cellsOf (cellCount pg - x .place .before) (x .place .at) pg)) ≡ all = rw (d .front, d .back) in
+    let same : sizesOf (cellsOf pg (x .place .before) 12) ++ (m ∷ sizesOf (cellsOf pg (cellCount pg - x .place .before) (x .place .at))) ≡ all = rw (d .front, d .back) in
     let n₁ : length xs ≡ x .place .before = length-map (d .first) (λ c. c .next - c .at) ∙ d .before in
     let n₂ : length ys ≡ cellCount pg - x .place .before = length-map (d .rest) (λ c. c .next - c .at) ∙ d .after in
     let s₁ : 12 + sum xs ≡ x .place .at = sizes-sum pg 12 (d .first) (d .chain) ∙ d .at in
     let s₂ : x .place .at + sum ys ≡ x .end = sizes-sum pg (x .place .at) (d .rest) (d .chain-on) ∙ d .end in
     let t : bytesWith x m ≡ sum all = omega (arith, sum-append xs (m ∷ ys), is .low) in
-    let cut-is : cutWith x m pg ≡ cutOf (sum all) all = rw (same, t) in
+    let cut-is : cutWith pg x m ≡ cutOf (sum all) all = rw (same, t) in
     let long : length all ≡ length xs + suc (length ys) = length-append xs (m ∷ ys) in
     let some : 2 ≤ length all =
     ⊎-elim
@@ -122,10 +122,10 @@ cut-stands used key creator s x m is lo hi over fits =
     let between : Between 1 4096 all =
     between-append 1 4096 xs (m ∷ ys) (rw (is .sound .whole) at (sizes-between pg 12 (d .first) (d .chain)))
     (omega arith, omega arith, rw (is .sound .whole) at (sizes-between pg (x .place .at) (d .rest) (d .chain-on))) in
-    let ch : BestCut all (cutWith x m pg) = subst (BestCut all) (sym cut-is) (cut-is-best all 4096 some between) in
-    let i = cutWith x m pg .cells in
-    let bytes : cutWith x m pg .bytes ≡ sum (take i all) = ap (λ (c : Cut). c .bytes) (ch .place) in
-    let side = fits-is (bytesWith x m) (cutWith x m pg) fits .1 in
+    let ch : BestCut all (cutWith pg x m) = subst (BestCut all) (sym cut-is) (cut-is-best all 4096 some between) in
+    let i = cutWith pg x m .cells in
+    let bytes : cutWith pg x m .bytes ≡ sum (take i all) = ap (λ (c : Cut). c .bytes) (ch .place) in
+    let side = fits-is (bytesWith x m) (cutWith pg x m) fits .1 in
     record {
       low = is .low;
       inside = is .inside;

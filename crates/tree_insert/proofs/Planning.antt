@@ -14,10 +14,10 @@ use Rattle.tree_insert.specs.declared.Spot.{Spot}
 use Rattle.tree_room.proofs.Rooming.{plan-uncut}
 
 module _ (st : State) (x : Spot) (m : ℕ) (s : List ℕ) {y : LeafPlan} where
-  pub insert-over : {cut : Cut} → 4084 < bytesWith x m → cut ≡ cutWith x m (page (x .leaf) s) → y ≡ leafPlan s st (x .leaf) true cut → y ≡ insertPlan s st x m
+  pub insert-over : {cut : Cut} → 4084 < bytesWith x m → cut ≡ cutWith (page s (x .leaf)) x m → y ≡ leafPlan s st (x .leaf) true cut → y ≡ insertPlan s st x m
   unfolding insertPlan
   insert-over h e q = q ∙ rw (lt-ltb 4084 (bytesWith x m) h, e)
 
   pub insert-fits : (cut : Cut) → bytesWith x m ≤ 4084 → y ≡ leafPlan s st (x .leaf) false cut → y ≡ insertPlan s st x m
   unfolding insertPlan
-  insert-fits cut h q = q ∙ rw (le-ltb 4084 (bytesWith x m) h) (plan-uncut st (x .leaf) cut (cutWith x m (page (x .leaf) s)) s)
+  insert-fits cut h q = q ∙ rw (le-ltb 4084 (bytesWith x m) h) (plan-uncut st (x .leaf) cut (cutWith (page s (x .leaf)) x m) s)

@@ -60,17 +60,17 @@ module _ (s : List ℕ) (st : State) (x : Spot) (plan : Planned) (key creator : 
   new = cellBytes key creator stamp pointer body
 
   abbrev pg : List ℕ
-  pg = page (x .leaf) s
+  pg = page s (x .leaf)
 
   pub stored-at : SpotIs (st .used) key creator s x
   stored-at = spot-is (st .used) (st .root) key creator s x B (pool-is s st good .room) spot
 
-  leaf-plans : leafPlan s st (x .leaf) (ltb 4084 (bytesWith x m)) (cutWith x m pg) ≡ planned plan
+  leaf-plans : leafPlan s st (x .leaf) (ltb 4084 (bytesWith x m)) (cutWith pg x m) ≡ planned plan
   unfolding insertPlan
   leaf-plans = plans
 
-  told : PlannedIs st (x .leaf) (ltb 4084 (bytesWith x m)) (cutWith x m pg) s plan
-  told = planned-is st (x .leaf) (ltb 4084 (bytesWith x m)) (cutWith x m pg) s leaf-plans
+  told : PlannedIs st (x .leaf) (ltb 4084 (bytesWith x m)) (cutWith pg x m) s plan
+  told = planned-is st (x .leaf) (ltb 4084 (bytesWith x m)) (cutWith pg x m) s leaf-plans
 
   -- ---- where it fits
 
@@ -90,10 +90,10 @@ module _ (s : List ℕ) (st : State) (x : Spot) (plan : Planned) (key creator : 
     overfull : 4084 < bytesWith x m
     overfull = ltb-true 4084 (bytesWith x m) (sym (told .same) ∙ over)
 
-    cut-is : plan .cut ≡ cutWith x m pg
+    cut-is : plan .cut ≡ cutWith pg x m
     cut-is = told .at-cut (sym (told .same) ∙ over)
 
-    over-plans : leafPlan s st (x .leaf) true (cutWith x m pg) ≡ planned plan
+    over-plans : leafPlan s st (x .leaf) true (cutWith pg x m) ≡ planned plan
     over-plans = rw (sym (told .same) ∙ over) at leaf-plans
 
     pub free-left : RoomLeft s st plan
@@ -110,17 +110,17 @@ module _ (s : List ℕ) (st : State) (x : Spot) (plan : Planned) (key creator : 
       page-is = alloc-page s st given
 
       -- what `divide_at` asks for
-      pub divide-asks : (x .leaf < a .page) × There (a .page) s₁ × (page (a .page) s₁ ≡ zeros 4096)
+      pub divide-asks : (x .leaf < a .page) × There (a .page) s₁ × (page s₁ (a .page) ≡ zeros 4096)
       divide-asks = (
         rw page-is (stored-at .in-use),
         rw (page-is, fresh, fresh-long s st (free-left .there)) (free-left .there),
         rw (page-is ∙ sym (next-is s st), fresh) (fresh-here s st (free-left .there)),
       )
 
-      same-leaf : page (x .leaf) s₁ ≡ pg
+      same-leaf : page s₁ (x .leaf) ≡ pg
       same-leaf = rw fresh (fresh-other s st (free-left .there) (x .leaf) (λ e. omega (arith, stored-at .in-use)))
 
-      module _ {n : ℕ} {u : List ℕ} (count : n ≡ cellCount pg) (divides : u ≡ divided (x .leaf) (a .page) (n + 1) (plan .cut) (splicedAt x new (page (x .leaf) s₁)) s₁) where
+      module _ {n : ℕ} {u : List ℕ} (count : n ≡ cellCount pg) (divides : u ≡ divided (x .leaf) (a .page) (n + 1) (plan .cut) (splicedAt x new (page s₁ (x .leaf))) s₁) where
         v-long : length (splicedAt x new pg) ≡ 12 + bytesWith x m
         v-long =
             length-spliced (x .place .at) (x .place .at) (x .end) new pg (omega arith) (stored-at .inside) (rw (stored-at .sound .whole) (stored-at .within))
@@ -138,14 +138,14 @@ module _ (s : List ℕ) (st : State) (x : Spot) (plan : Planned) (key creator : 
 
         -- what `settle` asks for, and what all of it does
         pub settle-asks : (0 < plan .path .len) × (plan .path .len ≤ 4) × There (a .page) u
-            × AboveSafe (a .state .root) (pageAt (plan .path) 0) (rankAt (page (a .page) u) 12) (a .page) (pagesAbove (plan .path) 0) (grown u (a .state))
+            × AboveSafe (a .state .root) (pageAt (plan .path) 0) (rankAt (page u (a .page)) 12) (a .page) (pagesAbove (plan .path) 0) (grown u (a .state))
         settle-asks =
-            up-asks s st (x .leaf) (n + 1) (bytesWith x m) (cutWith x m pg) (splicedAt x new pg) good (stored-at .in-use) (stored-at .kind) over-plans room v-head v-long cut-inside given fresh divides-is
+            up-asks s st (x .leaf) (n + 1) (bytesWith x m) (cutWith pg x m) (splicedAt x new pg) good (stored-at .in-use) (stored-at .kind) over-plans room v-head v-long cut-inside given fresh divides-is
 
         pub settle-done : {w : List ℕ} {r : State} → grown w r ≡ settled (pagesAbove (plan .path) 0) (pageAt (plan .path) 0) (a .page) (grown u (a .state))
             → grown w r ≡ dividedUp plan (x .leaf) (n + 1) (splicedAt x new pg) (grown s st)
         settle-done e =
-            up-done s st (x .leaf) (n + 1) (bytesWith x m) (cutWith x m pg) (splicedAt x new pg) good (stored-at .in-use) (stored-at .kind) over-plans room v-head v-long cut-inside given fresh divides-is e
+            up-done s st (x .leaf) (n + 1) (bytesWith x m) (cutWith pg x m) (splicedAt x new pg) good (stored-at .in-use) (stored-at .kind) over-plans room v-head v-long cut-inside given fresh divides-is e
 
     pub over-done : {n : ℕ} {w : List ℕ} {r : State} → n ≡ cellCount pg → grown w r ≡ dividedUp plan (x .leaf) (n + 1) (splicedAt x new pg) (grown s st)
         → grown w r ≡ insertedAt x plan new (grown s st)

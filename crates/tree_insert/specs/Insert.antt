@@ -23,12 +23,12 @@ abbrev pub bytesWith : Spot → (m : ℕ) → ℕ
 bytesWith x m = x .end - headerSize + m
 
 -- where the leaf with that cell would be cut
-abbrev pub cutWith : Spot → (m : ℕ) → List ℕ → Cut
-cutWith x m pg = cutLeaf (bytesWith x m) (x .place .before) (x .place .at) (cellCount pg - x .place .before) m pg
+abbrev pub cutWith : List ℕ → Spot → (m : ℕ) → Cut
+cutWith pg x m = cutLeaf pg (bytesWith x m) (x .place .before) (x .place .at) (cellCount pg - x .place .before) m
 
 -- "An overfull leaf (cells over 4084 bytes) is cut"
 unfoldable pub insertPlan : List ℕ → State → Spot → (m : ℕ) → LeafPlan
-insertPlan s st x m = leafPlan s st (x .leaf) (ltb leafRoom (bytesWith x m)) (cutWith x m (page (x .leaf) s))
+insertPlan s st x m = leafPlan s st (x .leaf) (ltb leafRoom (bytesWith x m)) (cutWith (page s (x .leaf)) x m)
 
 -- the leaf's bytes with the cell's bytes b at its place; they may be more than a page holds
 abbrev pub splicedAt : Spot → (b pg : List ℕ) → List ℕ
@@ -42,4 +42,4 @@ insertedAt x plan b g =
     (grown (setPage (x .leaf) (withCell (x .place .at) (x .end) (cellCount pg) b pg) (g .pool)) (g .state))
   where
     pg : List ℕ
-    pg = page (x .leaf) (g .pool)
+    pg = page (g .pool) (x .leaf)

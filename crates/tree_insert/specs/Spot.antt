@@ -16,4 +16,4 @@ spotIn p (LeafPlace.Bad f) = Spotted.Bad f
 
 unfoldable pub spotOf : List ℕ → (used root key creator : ℕ) → Spotted
 spotOf s used root key creator =
-    onLeaf (λ p. spotIn p (placeLeaf (page p s) p key creator)) (λ f. Spotted.Bad f) (descendOf s used root (Route.Insert key) 3)
+    onLeaf (λ p. spotIn p (placeLeaf (page s p) p key creator)) (λ f. Spotted.Bad f) (descendOf s used root (Route.Insert key) 3)

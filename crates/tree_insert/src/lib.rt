@@ -65,8 +65,8 @@ pub fn find_spot(pool: &[u8], used: u32, root: u32, key: u32, creator: u64) -> S
 }
 
 fn cut_at(pool: &[u8], x: Spot, m: usize) -> Cut
-    requires { ⌜ (x .leaf * 4096 + 4096 ≤ length (now pool)) × (12 ≤ x .end) × (x .end ≤ 4096) × (x .place .at ≤ 4096) × (m ≤ 4096) × (x .place .before ≤ cellCount (page (x .leaf) (now pool))) × (cellCount (page (x .leaf) (now pool)) < 16384) ⌝ }
-    ensures { λ r. ⌜ r ≡ cutWith x m (page (x .leaf) (now (pool .entry))) ⌝ }
+    requires { ⌜ (x .leaf * 4096 + 4096 ≤ length (now pool)) × (12 ≤ x .end) × (x .end ≤ 4096) × (x .place .at ≤ 4096) × (m ≤ 4096) × (x .place .before ≤ cellCount (page (now pool) (x .leaf))) × (cellCount (page (now pool) (x .leaf)) < 16384) ⌝ }
+    ensures { λ r. ⌜ r ≡ cutWith (page (now (pool .entry)) (x .leaf)) x m ⌝ }
 {
     let pg = page::pool::page_of(pool, x.leaf);
     let here = x.place;
@@ -107,9 +107,9 @@ fn divide_at(
     pointer: Pointer,
     body: &[u8],
 )
-    requires { ⌜ (x .leaf < q) × (q * 4096 + 4096 ≤ length (now pool)) × (page q (now pool) ≡ zeros 4096) × (length (now body) ≤ 4051) ⌝ }
+    requires { ⌜ (x .leaf < q) × (q * 4096 + 4096 ≤ length (now pool)) × (page (now pool) q ≡ zeros 4096) × (length (now body) ≤ 4051) ⌝ }
     requires { ⌜ InsertCutStands x (cellSize stamp pointer (length (now body))) n cut ⌝ }
-    ensures { λ _. ⌜ now (pool .exit) ≡ divided (x .leaf) q (n + 1) cut (splicedAt x (cellBytes key creator stamp pointer (now (body .entry))) (page (x .leaf) (now (pool .entry)))) (now (pool .entry)) ⌝ }
+    ensures { λ _. ⌜ now (pool .exit) ≡ divided (x .leaf) q (n + 1) cut (splicedAt x (cellBytes key creator stamp pointer (now (body .entry))) (page (now (pool .entry)) (x .leaf))) (now (pool .entry)) ⌝ }
 {
     let p = x.leaf;
     let here = x.place;
@@ -160,11 +160,11 @@ fn store_divided(
     pointer: Pointer,
     body: &[u8],
 ) -> State
-    requires { ⌜ (goodPool (now pool) st ≡ true) × (length (now body) ≤ 4051) × (n ≡ cellCount (page (x .leaf) (now pool))) × (plan .over ≡ true) ⌝ }
+    requires { ⌜ (goodPool (now pool) st ≡ true) × (length (now body) ≤ 4051) × (n ≡ cellCount (page (now pool) (x .leaf))) × (plan .over ≡ true) ⌝ }
     requires { ⌜ spotOf (now pool) (st .used) (st .root) key creator ≡ Spotted.Ok x ⌝ }
     requires { ⌜ insertPlan (now pool) st x (cellSize stamp pointer (length (now body))) ≡ planned plan ⌝ }
     requires { ⌜ roomOf (length (now pool) / 4096) st (bytesWith x (cellSize stamp pointer (length (now body)))) plan ≡ 0 ⌝ }
-    ensures { λ r. ⌜ grown (now (pool .exit)) r ≡ dividedUp plan (x .leaf) (n + 1) (splicedAt x (cellBytes key creator stamp pointer (now (body .entry))) (page (x .leaf) (now (pool .entry)))) (grown (now (pool .entry)) st) ⌝ }
+    ensures { λ r. ⌜ grown (now (pool .exit)) r ≡ dividedUp plan (x .leaf) (n + 1) (splicedAt x (cellBytes key creator stamp pointer (now (body .entry))) (page (now (pool .entry)) (x .leaf))) (grown (now (pool .entry)) st) ⌝ }
 {
     let a = page::pool::allocate(pool, st);
     let q = a.page;

@@ -48,8 +48,8 @@ use Rattle.tree_room.proofs.Rooming.{Climbs, climb-climbs}
 -- ---- the leaf has divided
 
 -- v is what the leaf p would hold, n cells
-module _ (s : List ℕ) (st : State) (p n : ℕ) (cut : Cut) (v : List ℕ) (low : p < st .used) (there : There (st .used) s) (kind : nodeType (page p s) ≡ 1)
-    (head : part 0 12 v ≡ part 0 12 (page p s)) (left-fits : cut .bytes ≤ 4084) (inside : 12 + cut .bytes ≤ length v) (right-fits : length v ≤ 4096 + cut .bytes) where
+module _ (s : List ℕ) (st : State) (p n : ℕ) (cut : Cut) (v : List ℕ) (low : p < st .used) (there : There (st .used) s) (kind : nodeType (page s p) ≡ 1)
+    (head : part 0 12 v ≡ part 0 12 (page s p)) (left-fits : cut .bytes ≤ 4084) (inside : 12 + cut .bytes ≤ length v) (right-fits : length v ≤ 4096 + cut .bytes) where
   left-long : (q : ℕ) → length (leftLeaf q cut v) ≡ 4096
   unfolding leftLeaf
   left-long q =
@@ -66,12 +66,12 @@ module _ (s : List ℕ) (st : State) (p n : ℕ) (cut : Cut) (v : List ℕ) (low
       let l = length-part 0 (12 + cut .bytes) v (omega arith) in
       leAt-putAt-below 1 4 (withCount (cut .cells) x) 8 q 0 (omega arith)
       ∙ leAt-putAt-below 1 2 x 6 (cut .cells) 0 (omega arith)
-      ∙ leAt-same 1 0 0 x (page p s)
+      ∙ leAt-same 1 0 0 x (page s p)
       (part-pad 4096 0 1 y (omega arith)
       ∙ part-part 0 (12 + cut .bytes) 0 1 v (omega arith)
       ∙ sym (part-part 0 12 0 1 v (omega arith))
       ∙ ap (part 0 1) head
-      ∙ part-part 0 12 0 1 (page p s) (omega arith))
+      ∙ part-part 0 12 0 1 (page s p) (omega arith))
       ∙ kind
 
   right-long : (next : ℕ) (fresh : List ℕ) → length fresh ≡ 4096 → length (rightLeaf next n cut v fresh) ≡ 4096
@@ -93,7 +93,7 @@ module _ (s : List ℕ) (st : State) (p n : ℕ) (cut : Cut) (v : List ℕ) (low
   pool₁ = withFresh s st
 
   abbrev rightSide : List ℕ
-  rightSide = rightLeaf (nextLeaf (page p pool₁)) n cut v (page new pool₁)
+  rightSide = rightLeaf (nextLeaf (page pool₁ p)) n cut v (page pool₁ new)
 
   new-is : new ≡ st .used
   new-is = next-is s st
@@ -102,7 +102,7 @@ module _ (s : List ℕ) (st : State) (p n : ℕ) (cut : Cut) (v : List ℕ) (low
   new-there = rw (new-is, fresh-long s st there) there
 
   rl : length rightSide ≡ 4096
-  rl = right-long (nextLeaf (page p pool₁)) (page new pool₁) (length-page new pool₁ new-there)
+  rl = right-long (nextLeaf (page pool₁ p)) (page pool₁ new) (length-page new pool₁ new-there)
 
   abbrev pool₂ : List ℕ
   pool₂ = setPage new rightSide pool₁
@@ -132,7 +132,7 @@ module _ (s : List ℕ) (st : State) (p n : ℕ) (cut : Cut) (v : List ℕ) (low
 full-few : (ps s : List ℕ) → fullPages ps s ≤ length ps
 unfolding fullPages
 full-few [] s = omega arith
-full-few (p ∷ ps) s = by-test (full-few ps s) (eqb (cellCount (page p s)) 510)
+full-few (p ∷ ps) s = by-test (full-few ps s) (eqb (cellCount (page s p)) 510)
   where
     by-test : fullPages ps s ≤ length ps → (b : Bool) → pick b (suc (fullPages ps s)) 0 ≤ suc (length ps)
     by-test h true = omega arith
@@ -144,7 +144,7 @@ division-few ps s = full-few ps s
 
 plan-division : (used old : ℕ) (ps s : List ℕ) {d : Division} → planOf s used old ps ≡ Plan.Ok d → d ≡ divisionOf ps s
 unfolding planOf
-plan-division used old ps s {d} e = by-links (inUse used (relinks old ps s)) e
+plan-division used old ps s {d} e = by-links (inUse used (relinks s old ps)) e
   where
     by-links : (l : Links) → onLinks (Plan.Ok (divisionOf ps s)) (λ f. Plan.Bad f) l ≡ Plan.Ok d → d ≡ divisionOf ps s
     by-links Links.InUse u = cc
@@ -264,7 +264,7 @@ room-left s st t x good e o =
 -- ---- all together
 
 pub planned-safe : (s : List ℕ) (st : State) (p t : ℕ) (cut : Cut) (plan : Planned) (sep : ℕ) (g : Grown) → goodPool s st ≡ true → p < st .used
-    → nodeType (page p s) ≡ 1 → leafPlan s st p true cut ≡ planned plan → roomOf (length s / 4096) st t plan ≡ 0 → LeafDivided s st p g
+    → nodeType (page s p) ≡ 1 → leafPlan s st p true cut ≡ planned plan → roomOf (length s / 4096) st t plan ≡ 0 → LeafDivided s st p g
     → AboveSafe (st .root) p sep (st .used) (pagesAbove (plan .path) 0) g
 planned-safe s st p t cut plan sep g good low kind e room leaf =
     let is = planned-is st p true cut s e in
@@ -278,8 +278,8 @@ planned-safe s st p t cut plan sep g good low kind e room leaf =
 -- ---- the stores of a leaf that divides
 
 -- v, of t bytes and the header, is what the leaf p would hold; a is what was handed out, u the pool with the leaf divided
-module _ (s : List ℕ) (st : State) (p n t : ℕ) (cut : Cut) (v : List ℕ) {plan : Planned} (good : goodPool s st ≡ true) (low : p < st .used) (kind : nodeType (page p s) ≡ 1)
-    (plans : leafPlan s st p true cut ≡ planned plan) (room : roomOf (length s / 4096) st t plan ≡ 0) (head : part 0 12 v ≡ part 0 12 (page p s))
+module _ (s : List ℕ) (st : State) (p n t : ℕ) (cut : Cut) (v : List ℕ) {plan : Planned} (good : goodPool s st ≡ true) (low : p < st .used) (kind : nodeType (page s p) ≡ 1)
+    (plans : leafPlan s st p true cut ≡ planned plan) (room : roomOf (length s / 4096) st t plan ≡ 0) (head : part 0 12 v ≡ part 0 12 (page s p))
     (size : length v ≡ 12 + t) (inside : plan .cut .bytes ≤ t)
     {a : Allocated} {s₁ u : List ℕ} (given : a ≡ allocated s st) (fresh : s₁ ≡ withFresh s st) (divides : u ≡ divided p (a .page) n (plan .cut) v s₁) where
   is : PlannedIs st p true cut s plan
@@ -305,7 +305,7 @@ module _ (s : List ℕ) (st : State) (p n t : ℕ) (cut : Cut) (v : List ℕ) {p
 
   -- what `settle` asks for
   pub up-asks : (0 < plan .path .len) × (plan .path .len ≤ 4) × There (a .page) u
-      × AboveSafe (a .state .root) (pageAt (plan .path) 0) (rankAt (page (a .page) u) 12) (a .page) (pagesAbove (plan .path) 0) (grown u (a .state))
+      × AboveSafe (a .state .root) (pageAt (plan .path) 0) (rankAt (page u (a .page)) 12) (a .page) (pagesAbove (plan .path) 0) (grown u (a .state))
   up-asks =
       let long : length u ≡ length s = leaf .long in
       let root : a .state .root ≡ st .root = leaf .root in
@@ -313,8 +313,8 @@ module _ (s : List ℕ) (st : State) (p n t : ℕ) (cut : Cut) (v : List ℕ) {p
         is .climbs .some,
         is .climbs .four,
         omega (arith, free .there),
-        subst (λ (x : ℕ). AboveSafe x (pageAt (plan .path) 0) (rankAt (page (a .page) u) 12) (a .page) (pagesAbove (plan .path) 0) (grown u (a .state))) (sym root)
-            (rw (is .climbs .first, q) (planned-safe s st p t cut plan (rankAt (page (st .used) u) 12) (grown u (a .state)) good low kind plans room leaf)),
+        subst (λ (x : ℕ). AboveSafe x (pageAt (plan .path) 0) (rankAt (page u (a .page)) 12) (a .page) (pagesAbove (plan .path) 0) (grown u (a .state))) (sym root)
+            (rw (is .climbs .first, q) (planned-safe s st p t cut plan (rankAt (page u (st .used)) 12) (grown u (a .state)) good low kind plans room leaf)),
       )
 
   -- and what it does

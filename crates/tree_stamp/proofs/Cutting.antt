@@ -63,7 +63,7 @@ module _ (t : Target) (pg : List ℕ) (short : length pg ≤ 4096) (is : Stands 
   pub live : (t .cell .version .stamp ≡ Stamp.Absent) × (longer (t .cell) ≡ 8)
   live = longer-live (t .cell) (omega (arith, is .within))
 
-  sizes-are : sizesOf (cellsOf (t .beside .before) 12 pg) ++ (m ∷ sizesOf (cellsOf (cellCount pg - (t .beside .before + 1)) (t .cell .next) pg)) ≡ all
+  sizes-are : sizesOf (cellsOf pg (t .beside .before) 12) ++ (m ∷ sizesOf (cellsOf pg (cellCount pg - (t .beside .before + 1)) (t .cell .next))) ≡ all
   sizes-are =
       let n : cellCount pg - (t .beside .before + 1) ≡ length (is .rest) = omega (arith, is .count) in
       rw (n, ← is .before, chain-back pg 12 (is .first) (is .chain), chain-back pg (t .cell .next) (is .rest) (is .chain-on))
@@ -86,13 +86,13 @@ module _ (t : Target) (pg : List ℕ) (short : length pg ≤ 4096) (is : Stands 
   all-long : length all ≡ length xs + suc (length ys)
   all-long = length-append xs (m ∷ ys)
 
-  pub cut-is : cutStamped t pg ≡ cutOf (sum all) all
+  pub cut-is : cutStamped pg t ≡ cutOf (sum all) all
   unfolding cutLeaf
   cut-is = rw (sizes-are, whole-sum)
 
-  module _ (fits : cutFits (bytesStamped t) (cutStamped t pg) ≡ true) where
+  module _ (fits : cutFits (bytesStamped t) (cutStamped pg t) ≡ true) where
     abbrev cut : Cut
-    cut = cutStamped t pg
+    cut = cutStamped pg t
 
     sides : (1 ≤ cut .cells) × (largerSide (bytesStamped t) cut ≤ 4084)
     sides = fits-is (bytesStamped t) cut fits

@@ -47,38 +47,38 @@ either : {A : Type 0} (P : A → Type 0) (b : Bool) {x y : A} → P x → P y �
 either P true p q = p
 either P false p q = q
 
-module _ (s : List ℕ) (used p : ℕ) (low : p < used) {e : ℕ} (judged : judgeLeaf p (page p s) ≡ Judged.Ok e) where
-  later-met : (best : Best) (xs : List Cell) (c : Cell) (ys : List Cell) → cells (page p s) ≡ xs ++ (c ∷ ys) → BestMet s used best → BestMet s used (later p best c)
+module _ (s : List ℕ) (used p : ℕ) (low : p < used) {e : ℕ} (judged : judgeLeaf (page s p) p ≡ Judged.Ok e) where
+  later-met : (best : Best) (xs : List Cell) (c : Cell) (ys : List Cell) → cells (page s p) ≡ xs ++ (c ∷ ys) → BestMet s used best → BestMet s used (later p best c)
   later-met Best.Nothing xs c ys w b = record { in-use = low; end = e; judged = judged; before = xs; after = ys; among = w }
   later-met (Best.At q o) xs c ys w b =
       either (BestMet s used) (ltb (c .version .creator) (o .version .creator)) b (record { in-use = low; end = e; judged = judged; before = xs; after = ys; among = w })
 
   module _ (sn : Snapshot) (st : ℕ → ℕ) (key : ℕ) where
-    newest-met : (best : Best) (xs : List Cell) (c : Cell) (ys : List Cell) → cells (page p s) ≡ xs ++ (c ∷ ys) → BestMet s used best
+    newest-met : (best : Best) (xs : List Cell) (c : Cell) (ys : List Cell) → cells (page s p) ≡ xs ++ (c ∷ ys) → BestMet s used best
         → BestMet s used (newest p key sn st best c)
     unfolding newest
     newest-met best xs c ys w b =
         either (BestMet s used) (eqb (c .key) key && visible sn st (c .version .creator) (c .version .stamp)) (later-met best xs c ys w b) b
 
-    fold-met : (xs ys : List Cell) (best : Best) → cells (page p s) ≡ xs ++ ys → BestMet s used best → BestMet s used (foldCells (newest p key sn st) best ys)
+    fold-met : (xs ys : List Cell) (best : Best) → cells (page s p) ≡ xs ++ ys → BestMet s used best → BestMet s used (foldCells (newest p key sn st) best ys)
     unfolding foldCells
     fold-met xs [] best w b = b
     fold-met xs (c ∷ ys) best w b =
         fold-met (xs ++ (c ∷ [])) ys (newest p key sn st best c) (w ∙ simp append-assoc) (newest-met best xs c ys w b)
 
 module _ (sn : Snapshot) (st : ℕ → ℕ) (used key : ℕ) (s : List ℕ) where
-  find-met : (p : ℕ) → p < used → (best : Best) {b : Best} {l : Bool} → findLeaf (page p s) p key sn st best ≡ LeafBest.Ok b l → BestMet s used best → BestMet s used b
+  find-met : (p : ℕ) → p < used → (best : Best) {b : Best} {l : Bool} → findLeaf (page s p) p key sn st best ≡ LeafBest.Ok b l → BestMet s used best → BestMet s used b
   unfolding findLeaf
-  find-met p low best {b} {l} e i = by-judged (judgeLeaf p (page p s)) refl e
+  find-met p low best {b} {l} e i = by-judged (judgeLeaf (page s p) p) refl e
     where
       all : Best
-      all = foldCells (newest p key sn st) best (cells (page p s))
+      all = foldCells (newest p key sn st) best (cells (page s p))
 
-      by-judged : (j : Judged) → judgeLeaf p (page p s) ≡ j → onJudged (λ e. LeafBest.Ok all (hasLarger key (cells (page p s)))) (λ f. LeafBest.Bad f) j ≡ LeafBest.Ok b l
+      by-judged : (j : Judged) → judgeLeaf (page s p) p ≡ j → onJudged (λ e. LeafBest.Ok all (hasLarger key (cells (page s p)))) (λ f. LeafBest.Bad f) j ≡ LeafBest.Ok b l
           → BestMet s used b
       by-judged (Judged.Ok n) j q =
           let u : all ≡ b = cc in
-          subst (BestMet s used) u (fold-met s used p low j sn st key [] (cells (page p s)) best refl i)
+          subst (BestMet s used) u (fold-met s used p low j sn st key [] (cells (page s p)) best refl i)
       by-judged (Judged.Bad f) j q = absurd (let z : _≡_ {A = ℕ} 0 1 = cc in omega arith)
 
   abbrev go : ℕ → Best → ℕ → Told Best
@@ -90,23 +90,23 @@ module _ (sn : Snapshot) (st : ℕ → ℕ) (used key : ℕ) (s : List ℕ) wher
   along-met (suc m) a p {b} e i = by-use (ltb p used) refl (λ d n q j. along-met m d n q j) e
     where
       next : ℕ
-      next = nextLeaf (page p s)
+      next = nextLeaf (page s p)
 
       by-next : ((d : Best) (n : ℕ) → go m d n ≡ ok b → BestMet s used d → BestMet s used b) → (t : Bool) (d : Best) → BestMet s used d → pick t (ok d) (go m d next) ≡ ok b
           → BestMet s used b
       by-next ih true d j q = let u : d ≡ b = cc in subst (BestMet s used) u j
       by-next ih false d j q = ih d next q j
 
-      by-leaf : ((d : Best) (n : ℕ) → go m d n ≡ ok b → BestMet s used d → BestMet s used b) → p < used → (r : LeafBest) → findLeaf (page p s) p key sn st a ≡ r
+      by-leaf : ((d : Best) (n : ℕ) → go m d n ≡ ok b → BestMet s used d → BestMet s used b) → p < used → (r : LeafBest) → findLeaf (page s p) p key sn st a ≡ r
           → onSeen (λ d. ok d) (λ d. pick (eqb next 0) (ok d) (go m d next)) (λ f. ill f) (seenBest r) ≡ ok b → BestMet s used b
       by-leaf ih h (LeafBest.Ok d true) f q = let u : d ≡ b = cc in subst (BestMet s used) u (find-met p h a f i)
       by-leaf ih h (LeafBest.Ok d false) f q = by-next ih (eqb next 0) d (find-met p h a f i) q
       by-leaf ih h (LeafBest.Bad g) f q = absurd (let z : _≡_ {A = ℕ} 0 1 = cc in omega arith)
 
       by-use : (t : Bool) → ltb p used ≡ t → ((d : Best) (n : ℕ) → go m d n ≡ ok b → BestMet s used d → BestMet s used b)
-          → pick t (onSeen (λ d. ok d) (λ d. pick (eqb next 0) (ok d) (go m d next)) (λ f. ill f) (lookBest key sn st a p (page p s))) (ill (structural p)) ≡ ok b
+          → pick t (onSeen (λ d. ok d) (λ d. pick (eqb next 0) (ok d) (go m d next)) (λ f. ill f) (lookBest key sn st a p (page s p))) (ill (structural p)) ≡ ok b
           → BestMet s used b
-      by-use true t ih q = by-leaf ih (ltb-true p used t) (findLeaf (page p s) p key sn st a) refl q
+      by-use true t ih q = by-leaf ih (ltb-true p used t) (findLeaf (page s p) p key sn st a) refl q
       by-use false t ih q = absurd (let z : _≡_ {A = ℕ} 0 1 = cc in omega arith)
 
   chain-met : (p : ℕ) {q : ℕ} {c : Cell} → bestAlong s used p key sn st ≡ ChainBest.Ok (Best.At q c) → CellMet used q c s
@@ -177,15 +177,15 @@ pub record Stands (pg : List ℕ) (c : Cell) (b : Beside) : Type 0 where
   pub within : b .end ≤ 4096
   pub few : cellCount pg < 16384
 
-judged-kind : (p : ℕ) (pg : List ℕ) {e : ℕ} → judgeLeaf p pg ≡ Judged.Ok e → nodeType pg ≡ 1
+judged-kind : (p : ℕ) (pg : List ℕ) {e : ℕ} → judgeLeaf pg p ≡ Judged.Ok e → nodeType pg ≡ 1
 unfolding judgeLeaf
 judged-kind p pg {e} j = by-type (eqb (nodeType pg) 1) refl j
   where
-    by-type : (b : Bool) → eqb (nodeType pg) 1 ≡ b → pick b (judgeCells p 0 0 (cellCount pg) 12 pg) (Judged.Bad (structural p)) ≡ Judged.Ok e → nodeType pg ≡ 1
+    by-type : (b : Bool) → eqb (nodeType pg) 1 ≡ b → pick b (judgeCells pg p 0 0 (cellCount pg) 12) (Judged.Bad (structural p)) ≡ Judged.Ok e → nodeType pg ≡ 1
     by-type true t w = eqb-true (nodeType pg) 1 t
     by-type false t w = absurd (let z : _≡_ {A = ℕ} 0 1 = cc in omega arith)
 
-module _ (pg : List ℕ) (short : length pg ≤ 4096) (p e : ℕ) (judged : judgeLeaf p pg ≡ Judged.Ok e) (xs : List Cell) (c : Cell) (ys : List Cell) (among : cells pg ≡ xs ++ (c ∷ ys)) where
+module _ (pg : List ℕ) (short : length pg ≤ 4096) (p e : ℕ) (judged : judgeLeaf pg p ≡ Judged.Ok e) (xs : List Cell) (c : Cell) (ys : List Cell) (among : cells pg ≡ xs ++ (c ∷ ys)) where
   all-chain : Chain pg 12 (xs ++ (c ∷ ys))
   all-chain = subst (Chain pg 12) among (chain-cells pg (cellCount pg) 12)
 
@@ -242,10 +242,10 @@ module _ (pg : List ℕ) (short : length pg ≤ 4096) (p e : ℕ) (judged : judg
       }
 
 -- what a lookup found, with what stands beside it
-pub target-stands : (used : ℕ) (s : List ℕ) (t : Target) → CellMet used (t .leaf) (t .cell) s → t ≡ targetOf (t .leaf) (t .cell) (page (t .leaf) s)
-    → Stands (page (t .leaf) s) (t .cell) (t .beside)
+pub target-stands : (used : ℕ) (s : List ℕ) (t : Target) → CellMet used (t .leaf) (t .cell) s → t ≡ targetOf (page s (t .leaf)) (t .leaf) (t .cell)
+    → Stands (page s (t .leaf)) (t .cell) (t .beside)
 target-stands used s t m is =
-    let pg = page (t .leaf) s in
+    let pg = page s (t .leaf) in
     let b : t .beside ≡ record { before = length (m .before); end = m .end } =
     ap (λ (x : Target). x .beside) is ∙ beside-is pg (page-short (t .leaf) s) (t .leaf) (m .end) (m .judged) (m .before) (t .cell) (m .after) (m .among) in
     subst (Stands pg (t .cell)) (sym b) (beside-stands pg (page-short (t .leaf) s) (t .leaf) (m .end) (m .judged) (m .before) (t .cell) (m .after) (m .among))

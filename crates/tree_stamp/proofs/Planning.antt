@@ -16,13 +16,13 @@ use Rattle.tree_room.proofs.Telling.{plan-told}
 use Rattle.tree_room.proofs.Rooming.{plan-uncut}
 
 module _ (st : State) (t : Target) (s : List ℕ) {y : LeafPlan} where
-  pub stamp-over : {cut : Cut} → 4084 < bytesStamped t → cut ≡ cutStamped t (page (t .leaf) s) → y ≡ leafPlan s st (t .leaf) true cut → y ≡ stampPlan s st t
+  pub stamp-over : {cut : Cut} → 4084 < bytesStamped t → cut ≡ cutStamped (page s (t .leaf)) t → y ≡ leafPlan s st (t .leaf) true cut → y ≡ stampPlan s st t
   unfolding stampPlan
   stamp-over h e q = q ∙ rw (lt-ltb 4084 (bytesStamped t) h, e)
 
   pub stamp-fits : (cut : Cut) → bytesStamped t ≤ 4084 → y ≡ leafPlan s st (t .leaf) false cut → y ≡ stampPlan s st t
   unfolding stampPlan
-  stamp-fits cut h q = q ∙ rw (le-ltb 4084 (bytesStamped t) h) (plan-uncut st (t .leaf) cut (cutStamped t (page (t .leaf) s)) s)
+  stamp-fits cut h q = q ∙ rw (le-ltb 4084 (bytesStamped t) h) (plan-uncut st (t .leaf) cut (cutStamped (page s (t .leaf)) t) s)
 
   module _ (plans : y ≡ stampPlan s st t) (ok : not (y .ok) ≡ false) where
     pub stamp-told : stampPlan s st t ≡ planned (y .plan)

@@ -45,9 +45,9 @@ use Rattle.tree_stamp.proofs.Meeting.{Stands, target-stands}
 use Rattle.tree_stamp.proofs.Cutting.{cut-stands}
 
 module _ (s : List ℕ) (st : State) (t : Target) (plan : Planned) (d : ℕ) (good : goodPool s st ≡ true) (met : CellMet (st .used) (t .leaf) (t .cell) s)
-    (is : t ≡ targetOf (t .leaf) (t .cell) (page (t .leaf) s)) (plans : stampPlan s st t ≡ planned plan) where
+    (is : t ≡ targetOf (page s (t .leaf)) (t .leaf) (t .cell)) (plans : stampPlan s st t ≡ planned plan) where
   abbrev pg : List ℕ
-  pg = page (t .leaf) s
+  pg = page s (t .leaf)
 
   pub stands : Stands pg (t .cell) (t .beside)
   stands = target-stands (st .used) s t met is
@@ -58,12 +58,12 @@ module _ (s : List ℕ) (st : State) (t : Target) (plan : Planned) (d : ℕ) (go
   pub leaf-long : length pg ≡ 4096
   leaf-long = length-page (t .leaf) s leaf-there
 
-  leaf-plans : leafPlan s st (t .leaf) (ltb 4084 (bytesStamped t)) (cutStamped t pg) ≡ planned plan
+  leaf-plans : leafPlan s st (t .leaf) (ltb 4084 (bytesStamped t)) (cutStamped pg t) ≡ planned plan
   unfolding stampPlan
   leaf-plans = plans
 
-  told : PlannedIs st (t .leaf) (ltb 4084 (bytesStamped t)) (cutStamped t pg) s plan
-  told = planned-is st (t .leaf) (ltb 4084 (bytesStamped t)) (cutStamped t pg) s leaf-plans
+  told : PlannedIs st (t .leaf) (ltb 4084 (bytesStamped t)) (cutStamped pg t) s plan
+  told = planned-is st (t .leaf) (ltb 4084 (bytesStamped t)) (cutStamped pg t) s leaf-plans
 
   -- ---- where it fits
 
@@ -83,10 +83,10 @@ module _ (s : List ℕ) (st : State) (t : Target) (plan : Planned) (d : ℕ) (go
     overfull : 4084 < bytesStamped t
     overfull = ltb-true 4084 (bytesStamped t) (sym (told .same) ∙ over)
 
-    cut-is : plan .cut ≡ cutStamped t pg
+    cut-is : plan .cut ≡ cutStamped pg t
     cut-is = told .at-cut (sym (told .same) ∙ over)
 
-    over-plans : leafPlan s st (t .leaf) true (cutStamped t pg) ≡ planned plan
+    over-plans : leafPlan s st (t .leaf) true (cutStamped pg t) ≡ planned plan
     over-plans = rw (sym (told .same) ∙ over) at leaf-plans
 
     pub free-left : RoomLeft s st plan
@@ -101,11 +101,11 @@ module _ (s : List ℕ) (st : State) (t : Target) (plan : Planned) (d : ℕ) (go
       page-is : a .page ≡ st .used
       page-is = alloc-page s st given
 
-      same-leaf : page (t .leaf) s₁ ≡ pg
+      same-leaf : page s₁ (t .leaf) ≡ pg
       same-leaf = rw fresh (fresh-other s st (free-left .there) (t .leaf) (λ e. omega (arith, met .in-use)))
 
       -- what `divide_at` asks for
-      pub divide-asks : (t .leaf < a .page) × There (a .page) s₁ × (page (a .page) s₁ ≡ zeros 4096) × StampCutStands t n (plan .cut) (page (t .leaf) s₁)
+      pub divide-asks : (t .leaf < a .page) × There (a .page) s₁ × (page s₁ (a .page) ≡ zeros 4096) × StampCutStands t n (plan .cut) (page s₁ (t .leaf))
       divide-asks = (
         rw page-is (met .in-use),
         rw (page-is, fresh, fresh-long s st (free-left .there)) (free-left .there),
@@ -113,7 +113,7 @@ module _ (s : List ℕ) (st : State) (t : Target) (plan : Planned) (d : ℕ) (go
         rw same-leaf (cut-there count),
       )
 
-      module _ (B : AreBytes s) {u : List ℕ} (divides : u ≡ divided (t .leaf) (a .page) n (plan .cut) (splicedStamp d t (page (t .leaf) s₁)) s₁) where
+      module _ (B : AreBytes s) {u : List ℕ} (divides : u ≡ divided (t .leaf) (a .page) n (plan .cut) (splicedStamp d t (page s₁ (t .leaf))) s₁) where
         live : t .cell .version .stamp ≡ Stamp.Absent
         live = cut-there count .live
 
@@ -141,14 +141,14 @@ module _ (s : List ℕ) (st : State) (t : Target) (plan : Planned) (d : ℕ) (go
 
         -- what `settle` asks for, and what all of it does
         pub settle-asks : (0 < plan .path .len) × (plan .path .len ≤ 4) × There (a .page) u
-            × AboveSafe (a .state .root) (pageAt (plan .path) 0) (rankAt (page (a .page) u) 12) (a .page) (pagesAbove (plan .path) 0) (grown u (a .state))
+            × AboveSafe (a .state .root) (pageAt (plan .path) 0) (rankAt (page u (a .page)) 12) (a .page) (pagesAbove (plan .path) 0) (grown u (a .state))
         settle-asks =
-            up-asks s st (t .leaf) n (bytesStamped t) (cutStamped t pg) (splicedStamp d t pg) good (met .in-use) (stands .kind) over-plans room v-head v-long cut-inside given fresh divides-is
+            up-asks s st (t .leaf) n (bytesStamped t) (cutStamped pg t) (splicedStamp d t pg) good (met .in-use) (stands .kind) over-plans room v-head v-long cut-inside given fresh divides-is
 
         pub settle-done : {w : List ℕ} {r : State} → grown w r ≡ settled (pagesAbove (plan .path) 0) (pageAt (plan .path) 0) (a .page) (grown u (a .state))
             → grown w r ≡ dividedUp plan (t .leaf) n (splicedStamp d t pg) (grown s st)
         settle-done e =
-            up-done s st (t .leaf) n (bytesStamped t) (cutStamped t pg) (splicedStamp d t pg) good (met .in-use) (stands .kind) over-plans room v-head v-long cut-inside given fresh divides-is e
+            up-done s st (t .leaf) n (bytesStamped t) (cutStamped pg t) (splicedStamp d t pg) good (met .in-use) (stands .kind) over-plans room v-head v-long cut-inside given fresh divides-is e
 
   pub over-done : {n : ℕ} {w : List ℕ} {r : State} → plan .over ≡ true → n ≡ cellCount pg → grown w r ≡ dividedUp plan (t .leaf) n (splicedStamp d t pg) (grown s st)
       → grown w r ≡ stampedAt d t plan (grown s st)

@@ -29,12 +29,12 @@ longer c = 9 - stampLen (c .version .stamp)
 abbrev pub bytesStamped : Target → ℕ
 bytesStamped t = t .beside .end - headerSize + longer (t .cell)
 
-abbrev pub cutStamped : Target → List ℕ → Cut
-cutStamped t pg =
-    cutLeaf (bytesStamped t) (t .beside .before) (t .cell .next) (cellCount pg - (t .beside .before + 1)) (t .cell .next - t .cell .at + longer (t .cell)) pg
+abbrev pub cutStamped : List ℕ → Target → Cut
+cutStamped pg t =
+    cutLeaf pg (bytesStamped t) (t .beside .before) (t .cell .next) (cellCount pg - (t .beside .before + 1)) (t .cell .next - t .cell .at + longer (t .cell))
 
 unfoldable pub stampPlan : List ℕ → State → Target → LeafPlan
-stampPlan s st t = leafPlan s st (t .leaf) (ltb leafRoom (bytesStamped t)) (cutStamped t (page (t .leaf) s))
+stampPlan s st t = leafPlan s st (t .leaf) (ltb leafRoom (bytesStamped t)) (cutStamped (page s (t .leaf)) t)
 
 -- the leaf's bytes with the cell stamped by d; they may be more than a page holds
 abbrev pub splicedStamp : (d : ℕ) → Target → List ℕ → List ℕ
@@ -51,4 +51,4 @@ stampedAt d t plan g =
     (grown (setPage (t .leaf) (withStamp d (t .beside .end) (t .cell) pg) (g .pool)) (g .state))
   where
     pg : List ℕ
-    pg = page (t .leaf) (g .pool)
+    pg = page (g .pool) (t .leaf)

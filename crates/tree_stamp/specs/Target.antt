@@ -17,5 +17,5 @@ besideStep at here x = record { before = here .before + pick (ltb (here .end) at
 unfoldable pub besideOf : (at : ℕ) → List Cell → Beside
 besideOf at cs = foldCells (besideStep at) (record { before = 0; end = headerSize }) cs
 
-abbrev pub targetOf : (p : ℕ) → Cell → List ℕ → Target
-targetOf p c pg = record { leaf = p; cell = c; beside = besideOf (c .at) (cells pg) }
+abbrev pub targetOf : List ℕ → (p : ℕ) → Cell → Target
+targetOf pg p c = record { leaf = p; cell = c; beside = besideOf (c .at) (cells pg) }

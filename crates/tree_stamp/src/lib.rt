@@ -63,7 +63,7 @@ fn beside_cell(pg: &[u8], at: usize) -> Beside
 // The cell c of page p, as a lookup found it.
 pub fn target_at(pool: &[u8], p: u32, c: Cell) -> Target
     requires { ⌜ p * 4096 + 4096 ≤ length (now pool) ⌝ }
-    ensures { λ r. ⌜ r ≡ targetOf p c (page p (now (pool .entry))) ⌝ }
+    ensures { λ r. ⌜ r ≡ targetOf (page (now (pool .entry)) p) p c ⌝ }
 {
     let beside = beside_cell(page::pool::page_of(pool, p), c.at);
     Target {
@@ -94,8 +94,8 @@ pub fn bytes_stamped(t: Target) -> usize
 }
 
 fn cut_at(pool: &[u8], t: Target) -> Cut
-    requires { ⌜ (t .leaf * 4096 + 4096 ≤ length (now pool)) × (12 ≤ t .beside .end) × (t .beside .end ≤ 4096) × (12 ≤ t .cell .at) × (t .cell .at ≤ t .cell .next) × (t .cell .next ≤ 4096) × (t .beside .before < cellCount (page (t .leaf) (now pool))) × (cellCount (page (t .leaf) (now pool)) < 16384) ⌝ }
-    ensures { λ r. ⌜ r ≡ cutStamped t (page (t .leaf) (now (pool .entry))) ⌝ }
+    requires { ⌜ (t .leaf * 4096 + 4096 ≤ length (now pool)) × (12 ≤ t .beside .end) × (t .beside .end ≤ 4096) × (12 ≤ t .cell .at) × (t .cell .at ≤ t .cell .next) × (t .cell .next ≤ 4096) × (t .beside .before < cellCount (page (now pool) (t .leaf))) × (cellCount (page (now pool) (t .leaf)) < 16384) ⌝ }
+    ensures { λ r. ⌜ r ≡ cutStamped (page (now (pool .entry)) (t .leaf)) t ⌝ }
 {
     let pg = page::pool::page_of(pool, t.leaf);
     let c = t.cell;
@@ -108,7 +108,7 @@ fn cut_at(pool: &[u8], t: Target) -> Cut
 
 // What stamping it would take.
 pub fn plan_stamp(pool: &[u8], st: State, t: Target) -> LeafPlan
-    requires { ⌜ (st .used * 4096 ≤ length (now pool)) × CellMet (st .used) (t .leaf) (t .cell) (now pool) × (t ≡ targetOf (t .leaf) (t .cell) (page (t .leaf) (now pool))) ⌝ }
+    requires { ⌜ (st .used * 4096 ≤ length (now pool)) × CellMet (st .used) (t .leaf) (t .cell) (now pool) × (t ≡ targetOf (page (now pool) (t .leaf)) (t .leaf) (t .cell)) ⌝ }
     ensures { λ r. ⌜ r ≡ stampPlan (now (pool .entry)) st t ⌝ }
 {
     if page::LEAF_ROOM < bytes_stamped(t) {
@@ -120,8 +120,8 @@ pub fn plan_stamp(pool: &[u8], st: State, t: Target) -> LeafPlan
 
 // The leaf with the cell stamped divides at the cut: page q takes the right side.
 fn divide_at(pool: &mut [u8], t: Target, q: u32, n: usize, cut: Cut, d: u64)
-    requires { ⌜ (t .leaf < q) × (q * 4096 + 4096 ≤ length (now pool)) × (page q (now pool) ≡ zeros 4096) × StampCutStands t n cut (page (t .leaf) (now pool)) ⌝ }
-    ensures { λ _. ⌜ now (pool .exit) ≡ divided (t .leaf) q n cut (splicedStamp d t (page (t .leaf) (now (pool .entry)))) (now (pool .entry)) ⌝ }
+    requires { ⌜ (t .leaf < q) × (q * 4096 + 4096 ≤ length (now pool)) × (page (now pool) q ≡ zeros 4096) × StampCutStands t n cut (page (now pool) (t .leaf)) ⌝ }
+    ensures { λ _. ⌜ now (pool .exit) ≡ divided (t .leaf) q n cut (splicedStamp d t (page (now (pool .entry)) (t .leaf))) (now (pool .entry)) ⌝ }
 {
     let p = t.leaf;
     let c = t.cell;
@@ -135,10 +135,10 @@ fn divide_at(pool: &mut [u8], t: Target, q: u32, n: usize, cut: Cut, d: u64)
 }
 
 fn store_divided(pool: &mut [u8], st: State, t: Target, plan: Planned, n: usize, d: u64) -> State
-    requires { ⌜ (goodPool (now pool) st ≡ true) × (n ≡ cellCount (page (t .leaf) (now pool))) × (plan .over ≡ true) ⌝ }
-    requires { ⌜ CellMet (st .used) (t .leaf) (t .cell) (now pool) × (t ≡ targetOf (t .leaf) (t .cell) (page (t .leaf) (now pool))) ⌝ }
+    requires { ⌜ (goodPool (now pool) st ≡ true) × (n ≡ cellCount (page (now pool) (t .leaf))) × (plan .over ≡ true) ⌝ }
+    requires { ⌜ CellMet (st .used) (t .leaf) (t .cell) (now pool) × (t ≡ targetOf (page (now pool) (t .leaf)) (t .leaf) (t .cell)) ⌝ }
     requires { ⌜ (stampPlan (now pool) st t ≡ planned plan) × (roomOf (length (now pool) / 4096) st (bytesStamped t) plan ≡ 0) ⌝ }
-    ensures { λ r. ⌜ grown (now (pool .exit)) r ≡ dividedUp plan (t .leaf) n (splicedStamp d t (page (t .leaf) (now (pool .entry)))) (grown (now (pool .entry)) st) ⌝ }
+    ensures { λ r. ⌜ grown (now (pool .exit)) r ≡ dividedUp plan (t .leaf) n (splicedStamp d t (page (now (pool .entry)) (t .leaf))) (grown (now (pool .entry)) st) ⌝ }
 {
     let a = page::pool::allocate(pool, st);
     let q = a.page;
@@ -152,7 +152,7 @@ fn store_divided(pool: &mut [u8], st: State, t: Target, plan: Planned, n: usize,
 // The stamp of d, as planned.
 pub fn store_stamp(pool: &mut [u8], st: State, t: Target, plan: Planned, d: u64) -> State
     requires { ⌜ goodPool (now pool) st ≡ true ⌝ }
-    requires { ⌜ CellMet (st .used) (t .leaf) (t .cell) (now pool) × (t ≡ targetOf (t .leaf) (t .cell) (page (t .leaf) (now pool))) ⌝ }
+    requires { ⌜ CellMet (st .used) (t .leaf) (t .cell) (now pool) × (t ≡ targetOf (page (now pool) (t .leaf)) (t .leaf) (t .cell)) ⌝ }
     requires { ⌜ (stampPlan (now pool) st t ≡ planned plan) × (roomOf (length (now pool) / 4096) st (bytesStamped t) plan ≡ 0) ⌝ }
     ensures { λ r. ⌜ grown (now (pool .exit)) r ≡ stampedAt d t plan (grown (now (pool .entry)) st) ⌝ }
 {

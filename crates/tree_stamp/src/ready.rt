@@ -88,7 +88,7 @@ fn by_room(t: Target, plan: Planned, n: u8) -> Marking
 
 // The target is found; test is what the conflict test says of it.
 pub fn marking_at(pool: &[u8], st: State, test: ChainTest, t: Target) -> Marking
-    requires { ⌜ (goodPool (now pool) st ≡ true) × CellMet (st .used) (t .leaf) (t .cell) (now pool) × (t ≡ targetOf (t .leaf) (t .cell) (page (t .leaf) (now pool))) ⌝ }
+    requires { ⌜ (goodPool (now pool) st ≡ true) × CellMet (st .used) (t .leaf) (t .cell) (now pool) × (t ≡ targetOf (page (now pool) (t .leaf)) (t .leaf) (t .cell)) ⌝ }
     ensures { λ r. ⌜ r ≡ markingAt (now (pool .entry)) st test t ⌝ }
 {
     let told = crate::plan_stamp(pool, st, t);

@@ -26,6 +26,6 @@ notFound r = onLooked (λ p c. notMarking Absent noFault) (λ q. notMarking (q .
 pub record Stampable (s : List ℕ) (st : State) (x : Marking) : Type 0 where
   pub pool : goodPool s st ≡ true
   pub met : CellMet (st .used) (x .target .leaf) (x .target .cell) s
-  pub is : x .target ≡ targetOf (x .target .leaf) (x .target .cell) (page (x .target .leaf) s)
+  pub is : x .target ≡ targetOf (page s (x .target .leaf)) (x .target .leaf) (x .target .cell)
   pub plans : stampPlan s st (x .target) ≡ planned (x .plan)
   pub fits : roomOf (length s / 4096) st (bytesStamped (x .target)) (x .plan) ≡ 0

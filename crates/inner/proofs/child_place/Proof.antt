@@ -12,7 +12,7 @@ use Rattle.inner.proofs.child_place.Statement.{statement}
 use Rattle.inner.proofs.child_place.Tie as tie
 
 abbrev Inv-loop : tie.InvT-loop
-Inv-loop pg n child i₀ i = (i ≤ n) × (childPlace child (childrenFrom 0 n pg) ≡ i + childPlace child (childrenFrom i (n - i) pg))
+Inv-loop pg n child i₀ i = (i ≤ n) × (childPlace child (childrenFrom pg 0 n) ≡ i + childPlace child (childrenFrom pg i (n - i)))
 
 abbrev μ-loop : tie.MeasureT-loop
 μ-loop pg n child i₀ i = n - i

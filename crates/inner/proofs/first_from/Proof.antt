@@ -12,7 +12,7 @@ use Rattle.inner.proofs.first_from.Tie as tie
 
 abbrev Inv-loop : tie.InvT-loop
 Inv-loop pg n bound lo₀ hi₀ lo hi =
-    (lo ≤ firstWhere (leb bound) (keysFrom 0 n pg)) × (firstWhere (leb bound) (keysFrom 0 n pg) ≤ hi) × (hi ≤ n)
+    (lo ≤ firstWhere (leb bound) (keysFrom pg 0 n)) × (firstWhere (leb bound) (keysFrom pg 0 n) ≤ hi) × (hi ≤ n)
 
 abbrev μ-loop : tie.MeasureT-loop
 μ-loop pg n bound lo₀ hi₀ lo hi = hi - lo

@@ -11,7 +11,7 @@ use Rattle.inner.proofs.never_falls.Statement.{statement}
 use Rattle.inner.proofs.never_falls.Tie as tie
 
 abbrev Inv-loop : tie.InvT-loop
-Inv-loop pg n ok₀ last₀ i₀ ok last i = (i ≤ n) × (neverFalls 0 (keysFrom 0 n pg) ≡ (ok && neverFalls last (keysFrom i (n - i) pg)))
+Inv-loop pg n ok₀ last₀ i₀ ok last i = (i ≤ n) × (neverFalls 0 (keysFrom pg 0 n) ≡ (ok && neverFalls last (keysFrom pg i (n - i))))
 
 abbrev μ-loop : tie.MeasureT-loop
 μ-loop pg n ok₀ last₀ i₀ ok last i = n - i

@@ -10,5 +10,5 @@ use Rattle.inner.specs.Inner.{childAt}
 unfoldable pub AdoptSafe : (n i p q : ℕ) → List ℕ → Type 0
 AdoptSafe zero i p q s = Unit
 AdoptSafe (suc n) i p q s =
-    (childAt (page p s) i * 4096 + 4096 ≤ length s)
-    × AdoptSafe n (i + 1) p q (setPage (childAt (page p s) i) (withParent q (page (childAt (page p s) i) s)) s)
+    (childAt (page s p) i * 4096 + 4096 ≤ length s)
+    × AdoptSafe n (i + 1) p q (setPage (childAt (page s p) i) (withParent q (page s (childAt (page s p) i))) s)

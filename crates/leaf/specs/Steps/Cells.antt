@@ -7,8 +7,8 @@ use Rattle.leaf.specs.Cells.{onCell, stepOf, onStep}
 use Rattle.row.specs.Fault.{cellFault, structural}
 
 -- where that cell ends, and 0 for a fault; and the fault of a cell after which a walk cannot go on
-unfoldable pub stepEnd : (k c at : ℕ) → List ℕ → ℕ
-stepEnd k c at s = onStep (λ x. x .next) (λ f. 0) (stepOf 0 k c at s)
+unfoldable pub stepEnd : List ℕ → (k c at : ℕ) → ℕ
+stepEnd s k c at = onStep (λ x. x .next) (λ f. 0) (stepOf s 0 k c at)
 
-unfoldable pub stepFault : (p at : ℕ) → List ℕ → Fault
-stepFault p at s = onCell (λ x. structural p) (λ kind. cellFault p at kind) (cellAt s at)
+unfoldable pub stepFault : List ℕ → (p at : ℕ) → Fault
+stepFault s p at = onCell (λ x. structural p) (λ kind. cellFault p at kind) (cellAt s at)

@@ -19,7 +19,7 @@ sub-mid c = search needs
 part-leaf-requires : tie.Need-part-leaf-requires
 part-leaf-requires c κs =
     let k = c .before .before .before in
-    let w = cell-placed (page (k .args .p) (now (k .args .pool))) (k .args .c .at) (k .args .c) (k .pre .1 .0 .0) in
+    let w = cell-placed (page (now (k .args .pool)) (k .args .p)) (k .args .c .at) (k .args .c) (k .pre .1 .0 .0) in
     search needs
 
 mul-a : tie.Need-mul-a
@@ -40,7 +40,7 @@ part-grow-stamp-end c = search needs
 sub-grow-stamp-2 : tie.Need-sub-grow-stamp-2
 sub-grow-stamp-2 c =
     let k = c .before .before .before .before .before .before .before .before in
-    let w = cell-placed (page (k .args .p) (now (k .args .pool))) (k .args .c .at) (k .args .c) (k .pre .1 .0 .0) in
+    let w = cell-placed (page (now (k .args .pool)) (k .args .p)) (k .args .c .at) (k .args .c) (k .pre .1 .0 .0) in
     search needs
 
 cast-grow-stamp : tie.Need-cast-grow-stamp
@@ -49,7 +49,7 @@ cast-grow-stamp c = search needs
 grow-stamp-requires : tie.Need-grow-stamp-requires
 grow-stamp-requires c κs =
     let k = c .before .before .before .before .before .before .before .before in
-    let w = cell-placed (page (k .args .p) (now (k .args .pool))) (k .args .c .at) (k .args .c) (k .pre .1 .0 .0) in
+    let w = cell-placed (page (now (k .args .pool)) (k .args .p)) (k .args .c .at) (k .args .c) (k .pre .1 .0 .0) in
     search needs
 
 sub-link-leaves : tie.Need-sub-link-leaves
@@ -65,7 +65,7 @@ returns : tie.Need-returns
 returns c =
     let known = c .before .before .before .before .before .before .before .before .before .before .before .before .before .before .before in
     let k = known .before in
-    let w = cell-placed (page (k .args .p) (now (k .args .pool))) (k .args .c .at) (k .args .c) (k .pre .1 .0 .0) in
+    let w = cell-placed (page (now (k .args .pool)) (k .args .p)) (k .args .c .at) (k .args .c) (k .pre .1 .0 .0) in
     let f = rw lent-page at (c .before .before .before .before .before .before .before .grow-stamp .ensures) in
     let g = rw back-page at (c .before .before .link-leaves .ensures) in
     stamp-left-done _ _ _ _ _ _ (k .args .c) (now (k .args .pool)) (omega arith) (omega arith) (λ i. (known .slice-known .given i) .fits) (k .pre .1 .0 .0) (k .pre .1 .0 .1) (omega arith) (omega arith) (omega arith) _ _

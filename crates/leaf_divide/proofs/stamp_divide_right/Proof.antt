@@ -16,7 +16,7 @@ add-part-leaf c = search needs
 part-leaf-requires : tie.Need-part-leaf-requires
 part-leaf-requires c κs =
     let k = c .before .before .before in
-    let w = cell-placed (page (k .args .p) (now (k .args .pool))) (k .args .c .at) (k .args .c) (k .pre .1 .0 .0) in
+    let w = cell-placed (page (now (k .args .pool)) (k .args .p)) (k .args .c .at) (k .args .c) (k .pre .1 .0 .0) in
     search needs
 
 mul-b : tie.Need-mul-b
@@ -40,13 +40,13 @@ sub-grow-stamp-2 c = search needs
 sub-grow-stamp-3 : tie.Need-sub-grow-stamp-3
 sub-grow-stamp-3 c =
     let k = c .before .before .before .before .before .before .before .before .before .before in
-    let w = cell-placed (page (k .args .p) (now (k .args .pool))) (k .args .c .at) (k .args .c) (k .pre .1 .0 .0) in
+    let w = cell-placed (page (now (k .args .pool)) (k .args .p)) (k .args .c .at) (k .args .c) (k .pre .1 .0 .0) in
     search needs
 
 sub-grow-stamp-4 : tie.Need-sub-grow-stamp-4
 sub-grow-stamp-4 c =
     let k = c .before .before .before .before .before .before .before .before .before .before .before in
-    let w = cell-placed (page (k .args .p) (now (k .args .pool))) (k .args .c .at) (k .args .c) (k .pre .1 .0 .0) in
+    let w = cell-placed (page (now (k .args .pool)) (k .args .p)) (k .args .c .at) (k .args .c) (k .pre .1 .0 .0) in
     search needs
 
 cast-grow-stamp : tie.Need-cast-grow-stamp
@@ -55,7 +55,7 @@ cast-grow-stamp c = search needs
 grow-stamp-requires : tie.Need-grow-stamp-requires
 grow-stamp-requires c κs =
     let k = c .before .before .before .before .before .before .before .before .before .before .before in
-    let w = cell-placed (page (k .args .p) (now (k .args .pool))) (k .args .c .at) (k .args .c) (k .pre .1 .0 .0) in
+    let w = cell-placed (page (now (k .args .pool)) (k .args .p)) (k .args .c .at) (k .args .c) (k .pre .1 .0 .0) in
     search needs
 
 sub-link-leaves : tie.Need-sub-link-leaves
@@ -71,7 +71,7 @@ returns : tie.Need-returns
 returns c =
     let known = c .before .before .before .before .before .before .before .before .before .before .before .before .before .before .before .before .before .before in
     let k = known .before in
-    let w = cell-placed (page (k .args .p) (now (k .args .pool))) (k .args .c .at) (k .args .c) (k .pre .1 .0 .0) in
+    let w = cell-placed (page (now (k .args .pool)) (k .args .p)) (k .args .c .at) (k .args .c) (k .pre .1 .0 .0) in
     let f = rw lent-page at (c .before .before .before .before .before .before .before .grow-stamp .ensures) in
     let g = rw back-page at (c .before .before .link-leaves .ensures) in
     stamp-right-done _ _ _ _ _ _ (k .args .c) (now (k .args .pool)) (omega arith) (omega arith) (λ i. (known .slice-known .given i) .fits) (k .pre .1 .0 .0) (k .pre .1 .0 .1) (omega arith) (omega arith) (omega arith) _ _ _

@@ -18,7 +18,7 @@ use Rattle.leaf_vacuum.proofs.vacuum_leaf.Tie as tie
 abbrev Inv-loop : tie.InvT-loop
 Inv-loop pg₀ ids states bound e n left₀ at₀ end₀ count₀ dropped₀ changed₀ pg left at end count dropped changed =
     Left left at end pg
-    × (sweep (lookup (statuses ids states)) bound left at end count dropped changed pg ≡ vacuumedLeaf (lookup (statuses ids states)) bound pg₀)
+    × (sweep (lookup (statuses ids states)) bound left at end count dropped changed pg ≡ vacuumedLeaf pg₀ (lookup (statuses ids states)) bound)
     × (length pg ≡ 4096)
     × (left ≤ count)
     × (count < 65536)

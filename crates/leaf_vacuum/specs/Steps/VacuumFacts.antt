@@ -14,5 +14,5 @@ use Rattle.leaf_vacuum.specs.Vacuum.{vacuumedLeaf}
 
 abbrev pub VacuumSweeps : Type 0
 VacuumSweeps =
-    (st : ℕ → ℕ) (bound e : ℕ) (pg : List ℕ) → AreBytes pg → length pg ≡ 4096 → judgeLeaf 0 pg ≡ Judged.Ok e
-    → sweep st bound (cellCount pg) headerSize e (cellCount pg) 0 false pg ≡ vacuumedLeaf st bound pg
+    (st : ℕ → ℕ) (bound e : ℕ) (pg : List ℕ) → AreBytes pg → length pg ≡ 4096 → judgeLeaf pg 0 ≡ Judged.Ok e
+    → sweep st bound (cellCount pg) headerSize e (cellCount pg) 0 false pg ≡ vacuumedLeaf pg st bound

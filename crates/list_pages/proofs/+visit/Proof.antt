@@ -42,7 +42,7 @@ visit-Inv-loop pool seen₀ out₀ used below line count p kids listed₀ j₀ s
     × (length seen ≡ length seen₀)
     × (length out ≡ length out₀)
     × (listed + room j (below - 1) ≤ 4294967296)
-    × (kidsOf (below - 1) used pool (lineOf line ++ (p ∷ [])) j (page p pool) (logOf listed seen out) ≡ kidsOf (below - 1) used pool (lineOf line ++ (p ∷ [])) kids (page p pool) (logOf (count + 1) seen₀ out₀))
+    × (kidsOf (below - 1) used pool (lineOf line ++ (p ∷ [])) j (page pool p) (logOf listed seen out) ≡ kidsOf (below - 1) used pool (lineOf line ++ (p ∷ [])) kids (page pool p) (logOf (count + 1) seen₀ out₀))
 
 abbrev visit-μ-loop : visit-lts.MeasureT-loop
 visit-μ-loop pool seen₀ out₀ used below line count p kids listed₀ j₀ seen out listed j = j

@@ -42,8 +42,8 @@ noted p l =
       out = pick (leb (l .count * 10 + 10) (length (l .out))) (put (l .count * 10) (recordBytes 5 (bytesLE 4 p)) (l .out)) (l .out);
     }
 
-unfoldable pub visitOf : (k used : ℕ) → List ℕ → (up : List ℕ) → Log → (p : ℕ) → Told Log
-visitOf k used s up l p = visiting (λ m q. bitAt (m .seen) q) noted k used s up l p
+unfoldable pub visitOf : List ℕ → (used k : ℕ) → (up : List ℕ) → Log → (p : ℕ) → Told Log
+visitOf s used k up l p = visiting s used (λ m q. bitAt (m .seen) q) noted k up l p
 
 -- what the walk leaves behind; after a fault nothing is said of it
 abbrev pub LogEnds : Numbered → (seen out : List ℕ) → Told Log → Type 0

@@ -15,7 +15,7 @@ use Rattle.list_versions.proofs.write_run.Statement.{statement}
 use Rattle.list_versions.proofs.write_run.Tie as tie
 
 abbrev Inv-loop : tie.InvT-loop
-Inv-loop out₀ pg o from count at₀ to₀ left₀ out at to left = (put to (records (rowsOf left at pg)) out ≡ put o (records (rowsOf count from pg)) out₀) × (to + length (records (rowsOf left at pg)) ≡ o + length (records (rowsOf count from pg))) × (length (cellsOf left at pg) ≡ left) × (length out ≡ length out₀)
+Inv-loop out₀ pg o from count at₀ to₀ left₀ out at to left = (put to (records (rowsOf pg left at)) out ≡ put o (records (rowsOf pg count from)) out₀) × (to + length (records (rowsOf pg left at)) ≡ o + length (records (rowsOf pg count from))) × (length (cellsOf pg left at) ≡ left) × (length out ≡ length out₀)
 
 abbrev μ-loop : tie.MeasureT-loop
 μ-loop out₀ pg o from count at₀ to₀ left₀ out at to left = left

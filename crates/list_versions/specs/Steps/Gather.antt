@@ -27,14 +27,14 @@ abbrev pub sizeTold : Told (List Row) → ChainSize
 sizeTold (ok rs) = ChainSize.Ok (length (records rs))
 sizeTold (ill f) = ChainSize.Bad f
 
-abbrev pub runOf : Which → (p : ℕ) → List ℕ → LeafRun
-runOf Which.All p pg = onJudged (λ e. LeafRun.Ok (record { from = headerSize; to = e; count = cellCount pg }) e false) (λ f. LeafRun.Bad f) (judgeLeaf p pg)
-runOf (Which.Key key) p pg = runLeaf pg p key
+abbrev pub runOf : List ℕ → (p : ℕ) → Which → LeafRun
+runOf pg p Which.All = onJudged (λ e. LeafRun.Ok (record { from = headerSize; to = e; count = cellCount pg }) e false) (λ f. LeafRun.Bad f) (judgeLeaf pg p)
+runOf pg p (Which.Key key) = runLeaf pg p key
 
 abbrev pub againOn : LeafRun → Again
 againOn (LeafRun.Ok run e larger) = record { from = run .from; count = run .count; last = larger }
 againOn (LeafRun.Bad f) = record { from = headerSize; count = 0; last = true }
 
-abbrev pub againOf : Which → (p : ℕ) → List ℕ → Again
-againOf Which.All p pg = record { from = headerSize; count = cellCount pg; last = false }
-againOf (Which.Key key) p pg = againOn (runLeaf pg p key)
+abbrev pub againOf : List ℕ → (p : ℕ) → Which → Again
+againOf pg p Which.All = record { from = headerSize; count = cellCount pg; last = false }
+againOf pg p (Which.Key key) = againOn (runLeaf pg p key)

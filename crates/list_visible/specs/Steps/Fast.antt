@@ -31,7 +31,7 @@ abbrev pub boundCell : Bound → Cell → Bound
 boundCell b x = record { last = x .key; size = b .size + (6 + (x .next - x .at)); falls = b .falls || ltb (x .key) (b .last) }
 
 unfoldable pub boundLeaf : (p : ℕ) → Bound → List ℕ → ChainBound
-boundLeaf p b pg = onJudged (λ e. ChainBound.Ok (foldCells boundCell b (cells pg))) (λ f. ChainBound.Bad f) (judgeLeaf p pg)
+boundLeaf p b pg = onJudged (λ e. ChainBound.Ok (foldCells boundCell b (cells pg))) (λ f. ChainBound.Bad f) (judgeLeaf pg p)
 
 abbrev pub seenBound : ChainBound → Seen Bound
 seenBound (ChainBound.Ok b) = go b
@@ -106,7 +106,7 @@ pushedAll sn st p sc (x ∷ xs) s = pushed sn st p sc x s ++ pushedAll sn st p (
 -- what waits after a leaf, and the output with the records that the leaf makes listed, from sc .size on
 unfoldable pub passLeaf : (s : List ℕ) → (p : ℕ) → Snapshot → (ℕ → ℕ) → Scan → (out : List ℕ) → Written Scan
 passLeaf s p sn st sc out =
-    written (scanLeaf (page p s) p sn st sc) (put (sc .size) (pushedAll sn st p sc (cells (page p s)) s) out)
+    written (scanLeaf (page s p) p sn st sc) (put (sc .size) (pushedAll sn st p sc (cells (page s p)) s) out)
 
 -- along the chain: what waits, and all bytes so far
 pub record Pass : Type 0 where
@@ -118,7 +118,7 @@ lookPass s sn st a p pg =
     onJudged
     (λ e. go (record { scan = scanLeaf pg p sn st (a .scan); bytes = a .bytes ++ pushedAll sn st p (a .scan) (cells pg) s }))
     (λ f. broken f)
-    (judgeLeaf p pg)
+    (judgeLeaf pg p)
 
 unfoldable pub passAlong : List ℕ → (used p : ℕ) → Snapshot → (ℕ → ℕ) → Told Pass
 passAlong s used p sn st = along s used p (lookPass s sn st) used (record { scan = startScan; bytes = [] })
@@ -137,7 +137,7 @@ passed x out = written (length x) (put 0 x out)
 -- the leaf was judged
 pub record WasJudged (p : ℕ) (pg : List ℕ) : Type 0 where
   pub end : ℕ
-  pub judged : judgeLeaf p pg ≡ Judged.Ok end
+  pub judged : judgeLeaf pg p ≡ Judged.Ok end
 
 -- what waits has a cell's bytes at most; and they lie in the pool
 abbrev pub Whole : Wait → Type 0

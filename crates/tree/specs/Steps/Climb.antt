@@ -11,5 +11,5 @@ use Rattle.tree.specs.declared.climb.Climbed.{Climbed}
 use Rattle.tree.specs.Climb.{arrived, lost}
 
 -- at the root, with the path to it
-abbrev pub atRoot : ℕ → Path → List ℕ → Climbed
-atRoot p path s = pick (eqb (parentOf (page p s)) 0) (arrived path) (lost (structural p))
+abbrev pub atRoot : List ℕ → ℕ → Path → Climbed
+atRoot s p path = pick (eqb (parentOf (page s p)) 0) (arrived path) (lost (structural p))

@@ -36,7 +36,7 @@ check-subtree-below t =
 
 abbrev check-subtree-Inv-loop : check-subtree-lts.InvT-loop
 check-subtree-Inv-loop pool used below parent p lo hi next n pg j₀ high₀ link₀ j high link =
-    (j ≤ 510) × (kidsOf (checkOf (below - 1) used pool p) lo j high link pg ≡ checkOf below used pool parent p lo hi next)
+    (j ≤ 510) × (kidsOf pg (checkOf pool used (below - 1) p) lo j high link ≡ checkOf pool used below parent p lo hi next)
 
 abbrev check-subtree-μ-loop : check-subtree-lts.MeasureT-loop
 check-subtree-μ-loop pool used below parent p lo hi next n pg j₀ high₀ link₀ j high link = j

@@ -11,8 +11,8 @@ use Rattle.tree.specs.Distinct.{distinct}
 -- the links make the pages distinct
 abbrev pub LinksPart : Type 0
 LinksPart =
-    (k used root : ℕ) (s : List ℕ) → soundTree k used s 0 root 0 4294967295 ≡ true → leavesLinked s (leavesOf k s root) ≡ true
-    → distinct (pagesOf k s root) ≡ true
+    (k used root : ℕ) (s : List ℕ) → soundTree s used k 0 root 0 4294967295 ≡ true → leavesLinked s (leavesOf s k root) ≡ true
+    → distinct (pagesOf s k root) ≡ true
 
 abbrev pub CheckIsWell : Type 0
-CheckIsWell = (k used root : ℕ) (s : List ℕ) → isFirst (checkOf k used s 0 root 0 4294967295 0) ≡ wellAt s used root k
+CheckIsWell = (k used root : ℕ) (s : List ℕ) → isFirst (checkOf s used k 0 root 0 4294967295 0) ≡ wellAt s used root k

@@ -8,4 +8,4 @@ use Rattle.tree_grow.specs.Grow.{halved, enterOf}
 
 -- page p divides, and its right half is entered above it
 abbrev pub divideOf : (ps : List ℕ) → (p i sep new : ℕ) → Grown → Grown
-divideOf ps p i sep new g = enterOf ps p (middleKey i sep new (page p (g .pool))) (nextPage (g .pool) (g .state)) (halved p i sep new g)
+divideOf ps p i sep new g = enterOf ps p (middleKey i sep new (page (g .pool) p)) (nextPage (g .pool) (g .state)) (halved p i sep new g)

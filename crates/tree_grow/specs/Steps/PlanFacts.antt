@@ -21,8 +21,8 @@ ClimbStands =
 -- the pool s with the leaf p divided, its right side in the page that was next: no other page in use is changed by that
 pub record LeafDivided (s : List ℕ) (st : State) (p : ℕ) (g : Grown) : Type 0 where
   pub long : length (g .pool) ≡ length s
-  pub same : (x : ℕ) → x < st .used → (x ≡ p → ⊥) → page x (g .pool) ≡ page x s
-  pub leaf : nodeType (page p (g .pool)) ≡ 1
+  pub same : (x : ℕ) → x < st .used → (x ≡ p → ⊥) → page (g .pool) x ≡ page s x
+  pub leaf : nodeType (page (g .pool) p) ≡ 1
   pub root : g .state .root ≡ st .root
   pub used : g .state .used ≡ st .used + 1
 
@@ -32,6 +32,6 @@ Room asked g = (g .state .used + asked ≤ 65536) × ((g .state .used + asked) *
 
 abbrev pub PlanIsSafe : Type 0
 PlanIsSafe =
-    (s : List ℕ) (st : State) (p sep : ℕ) (ps : List ℕ) (g : Grown) → p < st .used → nodeType (page p s) ≡ 1
+    (s : List ℕ) (st : State) (p sep : ℕ) (ps : List ℕ) (g : Grown) → p < st .used → nodeType (page s p) ≡ 1
     → climbOf s (st .used) (st .root) p 3 ≡ up (p ∷ ps) → planOf s (st .used) p ps ≡ Plan.Ok (divisionOf ps s)
     → LeafDivided s st p g → Room (pagesAsked (st .root) (divisionOf ps s)) g → AboveSafe (st .root) p sep (st .used) ps g

@@ -25,32 +25,32 @@ Free g = (g .state .used < 65536) × There (g .state .used) (g .pool)
 -- page p divides: it is not the new page, has 510 keys, and every child that moves is there
 unfoldable pub HalvedSafe : (p i sep new : ℕ) → Grown → Type 0
 HalvedSafe p i sep new g =
-    Free g × (p < g .state .used) × (i ≤ maxKeys) × (cellCount (page p (g .pool)) ≡ maxKeys)
+    Free g × (p < g .state .used) × (i ≤ maxKeys) × (cellCount (page (g .pool) p) ≡ maxKeys)
     × AdoptSafe 256 0 (nextPage (g .pool) (g .state)) (nextPage (g .pool) (g .state))
-    (setPage p (leftHalf i sep new (page p (withFresh (g .pool) (g .state))))
-    (setPage (nextPage (g .pool) (g .state)) (rightHalf i sep new (page p (withFresh (g .pool) (g .state))) (page (nextPage (g .pool) (g .state)) (withFresh (g .pool) (g .state))))
+    (setPage p (leftHalf i sep new (page (withFresh (g .pool) (g .state)) p))
+    (setPage (nextPage (g .pool) (g .state)) (rightHalf i sep new (page (withFresh (g .pool) (g .state)) p) (page (withFresh (g .pool) (g .state)) (nextPage (g .pool) (g .state))))
     (withFresh (g .pool) (g .state))))
 
 unfoldable pub EnterSafe : (ps : List ℕ) → (old sep new : ℕ) → Grown → Type 0
 EnterSafe [] old sep new g = There old (g .pool) × There new (g .pool) × Free g
 EnterSafe (p ∷ ps) old sep new g =
-    There old (g .pool) × There new (g .pool) × There p (g .pool) × (cellCount (page p (g .pool)) ≤ maxKeys) × (placeIn old (page p (g .pool)) ≤ cellCount (page p (g .pool)))
-    × (cellCount (page p (g .pool)) ≡ maxKeys
-    → HalvedSafe p (placeIn old (page p (g .pool))) sep new (grown (linked new p (g .pool)) (g .state))
-    × EnterSafe ps p (middleKey (placeIn old (page p (g .pool))) sep new (page p (linked new p (g .pool)))) (nextPage (linked new p (g .pool)) (g .state))
-    (halved p (placeIn old (page p (g .pool))) sep new (grown (linked new p (g .pool)) (g .state))))
+    There old (g .pool) × There new (g .pool) × There p (g .pool) × (cellCount (page (g .pool) p) ≤ maxKeys) × (placeIn (page (g .pool) p) old ≤ cellCount (page (g .pool) p))
+    × (cellCount (page (g .pool) p) ≡ maxKeys
+    → HalvedSafe p (placeIn (page (g .pool) p) old) sep new (grown (linked new p (g .pool)) (g .state))
+    × EnterSafe ps p (middleKey (placeIn (page (g .pool) p) old) sep new (page (linked new p (g .pool)) p)) (nextPage (linked new p (g .pool)) (g .state))
+    (halved p (placeIn (page (g .pool) p) old) sep new (grown (linked new p (g .pool)) (g .state))))
 
 abbrev pub DivideSafe : (ps : List ℕ) → (p i sep new : ℕ) → Grown → Type 0
 DivideSafe ps p i sep new g =
-    HalvedSafe p i sep new g × EnterSafe ps p (middleKey i sep new (page p (g .pool))) (nextPage (g .pool) (g .state)) (halved p i sep new g)
+    HalvedSafe p i sep new g × EnterSafe ps p (middleKey i sep new (page (g .pool) p)) (nextPage (g .pool) (g .state)) (halved p i sep new g)
 
 -- the children of an internal page z are there
 unfoldable pub RelinkSafe : (z : ℕ) → List ℕ → Type 0
-RelinkSafe z s = nodeType (page z s) ≡ 0 → (cellCount (page z s) ≤ maxKeys) × AdoptSafe (cellCount (page z s) + 1) 0 z z s
+RelinkSafe z s = nodeType (page s z) ≡ 0 → (cellCount (page s z) ≤ maxKeys) × AdoptSafe (cellCount (page s z) + 1) 0 z z s
 
 unfoldable pub PinSafe : (fixed : ℕ) → Grown → Type 0
 PinSafe fixed g =
-    Free g × (fixed < g .state .used) × There (g .state .root) (g .pool) × There (childAt (page (g .state .root) (g .pool)) 1) (g .pool)
+    Free g × (fixed < g .state .used) × There (g .state .root) (g .pool) × There (childAt (page (g .pool) (g .state .root)) 1) (g .pool)
     × RelinkSafe (nextPage (g .pool) (g .state)) (movedTo fixed (nextPage (g .pool) (g .state)) (withFresh (g .pool) (g .state)))
 
 -- the separator can be entered above the leaf p, and afterwards the root can keep its number
@@ -63,4 +63,4 @@ pub record AboveSafe (root p sep new : ℕ) (ps : List ℕ) (g : Grown) : Type 0
 unfoldable pub Stands : (used old : ℕ) → List ℕ → List ℕ → Type 0
 Stands used old [] s = old < used
 Stands used old (p ∷ ps) s =
-    (old < used) × (mem old (p ∷ ps) ≡ false) × (cellCount (page p s) ≤ maxKeys) × (placeIn old (page p s) ≤ cellCount (page p s)) × Stands used p ps s
+    (old < used) × (mem old (p ∷ ps) ≡ false) × (cellCount (page s p) ≤ maxKeys) × (placeIn (page s p) old ≤ cellCount (page s p)) × Stands used p ps s

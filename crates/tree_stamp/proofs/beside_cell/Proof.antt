@@ -12,7 +12,7 @@ use Rattle.tree_stamp.proofs.beside_cell.Tie as tie
 
 abbrev Inv-loop : tie.InvT-loop
 Inv-loop pg at left₀ before₀ end₀ left before end =
-    (foldCells (besideStep at) (record { before = before; end = end }) (cellsOf left end pg) ≡ besideOf at (cells pg)) × (before + left ≤ 65535)
+    (foldCells (besideStep at) (record { before = before; end = end }) (cellsOf pg left end) ≡ besideOf at (cells pg)) × (before + left ≤ 65535)
 
 abbrev μ-loop : tie.MeasureT-loop
 μ-loop pg at left₀ before₀ end₀ left before end = left

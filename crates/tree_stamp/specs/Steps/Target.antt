@@ -11,7 +11,7 @@ use Rattle.leaf.specs.declared.Judged.{Judged}
 pub record CellMet (used p : ℕ) (c : Cell) (s : List ℕ) : Type 0 where
   pub in-use : p < used
   pub end : ℕ
-  pub judged : judgeLeaf p (page p s) ≡ Judged.Ok end
+  pub judged : judgeLeaf (page s p) p ≡ Judged.Ok end
   pub before : List Cell
   pub after : List Cell
-  pub among : cells (page p s) ≡ before ++ (c ∷ after)
+  pub among : cells (page s p) ≡ before ++ (c ∷ after)

@@ -12,7 +12,7 @@ use Rattle.leaf.proofs.place.cut_cells.Tie as tie
 abbrev Inv-loop : tie.InvT-loop
 Inv-loop pg t n from left₀ at₀ here₀ left at here =
     (at ≤ 4096)
-    × (cutAfter t here (sizesOf (cellsOf left at pg)) ≡ cutAfter t here₀ (sizesOf (cellsOf n from pg)))
+    × (cutAfter t here (sizesOf (cellsOf pg left at)) ≡ cutAfter t here₀ (sizesOf (cellsOf pg n from)))
     × (here .left .cells + left ≤ here₀ .left .cells + n)
     × (here .left .bytes + from ≤ here₀ .left .bytes + at)
 

@@ -11,7 +11,7 @@ use Rattle.list_visible.proofs.pass.measure_leaf.Statement.{statement}
 use Rattle.list_visible.proofs.pass.measure_leaf.Tie as tie
 
 abbrev Inv-loop : tie.InvT-loop
-Inv-loop pool used p xmax active cur ids states pg base left₀ at₀ here₀ left at here = Measuring (snapshot xmax active cur) (lookup (statuses ids states)) p (scanLeaf (page p pool) p (snapshot xmax active cur) (lookup (statuses ids states)) here₀) (here₀ .size) pg left at here
+Inv-loop pool used p xmax active cur ids states pg base left₀ at₀ here₀ left at here = Measuring (snapshot xmax active cur) (lookup (statuses ids states)) p (scanLeaf (page pool p) p (snapshot xmax active cur) (lookup (statuses ids states)) here₀) (here₀ .size) pg left at here
 
 abbrev μ-loop : tie.MeasureT-loop
 μ-loop pool used p xmax active cur ids states pg base left₀ at₀ here₀ left at here = left

@@ -11,7 +11,7 @@ use Rattle.tree_grow.proofs.plan.links_from.Statement.{statement}
 use Rattle.tree_grow.proofs.plan.links_from.Tie as tie
 
 abbrev Inv-loop : tie.InvT-loop
-Inv-loop pg used i n k₀ left₀ k left = (k + left ≤ 511) × (inUse used (childrenFrom k left pg) ≡ inUse used (childrenFrom i n pg))
+Inv-loop pg used i n k₀ left₀ k left = (k + left ≤ 511) × (inUse used (childrenFrom pg k left) ≡ inUse used (childrenFrom pg i n))
 
 abbrev μ-loop : tie.MeasureT-loop
 μ-loop pg used i n k₀ left₀ k left = left
