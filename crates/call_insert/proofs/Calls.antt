@@ -19,7 +19,7 @@ use Rattle.row.specs.Fault.{noFault}
 use Rattle.tree_insert.specs.Insert.{insertedAt}
 use Rattle.tree_insert.specs.Ready.{notReady, versionAt, newAt}
 use Rattle.tree_insert.specs.declared.ready.Ready.{Ready}
-use Rattle.call_answers.specs.Answer.{ended, Ended, Outcome, hideStateEnd, hideState, changedTo}
+use Rattle.call_answers.specs.Answer.{ended, Outcome, hideState, changedTo}
 use Rattle.call_insert.specs.Insert.{versionReady, insertVersionRun, insertVersionCall, insertReady, insertRun, insertCall}
 use Rattle.call_answers.specs.declared.Changed.{Changed}
 use Rattle.tree_insert.proofs.Storing.{cell-size}

@@ -1,6 +1,6 @@
 -- Laws of judging and of routing: a turn of each loop, each way out of the judgement, and the squeeze of the search by
 -- halves. Assumes nothing.
-use mathlib.Core.Path.{_≡_, refl, ap}
+use mathlib.Core.Path.{_≡_, refl}
 use mathlib.Core.Bool.{Bool, true, false, _&&_}
 use mathlib.Core.List.{List}
 use Prim.Native.Nat.{ℕ, zero, suc, _+_, _≤_, _<_}

@@ -2,7 +2,7 @@
 use mathlib.Core.Path.{_≡_, refl, sym, ap, _∙_}
 use mathlib.Core.Bool.{Bool, true, false, _||_, or-true, or-false}
 use mathlib.Core.List.{List}
-use mathlib.Core.Logic.{_⊎_, ⊎-elim}
+use mathlib.Core.Logic.{⊎-elim}
 use Prim.Native.Nat.{ℕ, zero, suc, _+_, _/_, _%_, _<_}
 use native.Mathlib.Nat.{div-div-eq-div-mul, zero-div}
 use native.Mathlib.Omega.{arith}

@@ -1,10 +1,8 @@
 -- What each writing call gives, in words and pool, from the call that it passes on. Assumes nothing.
-use mathlib.Core.Path.{_≡_, refl, ap, _∙_}
+use mathlib.Core.Path.{_≡_, ap, _∙_}
 use mathlib.Core.Bool.{Bool, true, false}
 use mathlib.Core.List.{List}
 use Prim.Native.Nat.{ℕ}
-use native.Mathlib.Omega.{arith}
-use lib.ListN.{length, set}
 use Rattle.page.specs.declared.pool.State.{State}
 use Rattle.row.specs.declared.Stamp.{Stamp}
 use Rattle.row.specs.declared.Pointer.{Pointer}
@@ -16,7 +14,6 @@ use Rattle.call_stamp.specs.Claim.{claimCall}
 use Rattle.call_clean.specs.Remove.{removeCall}
 use Rattle.port.specs.Words.{stampOf, pointerOf, Called, called, given, calledPool, givenPool}
 use Rattle.mvcc.specs.Snapshot.{Statuses, snapshot}
-use Rattle.port.proofs.Giving.{set-put, two-words}
 
 -- ---- a stamp and a pointer
 

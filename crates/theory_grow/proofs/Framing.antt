@@ -9,7 +9,7 @@ use native.Mathlib.Numerals.{add-one}
 use native.Mathlib.Omega.{arith}
 use borrow.Author.Tests.{eqb-true, eqb-false}
 use lib.Dec.{eqb}
-use lib.ListN.{length, take, drop, getD, length-append, length-replicate, take-append-drop}
+use lib.ListN.{length, take, drop, getD, length-append, take-append-drop}
 use Rattle.store.specs.Le.{AreBytes}
 use Rattle.store.specs.Part.{part, zeros, pad}
 use Rattle.store.specs.Pick.{pick}
@@ -53,12 +53,11 @@ use Rattle.theory_tree.proofs.Contexts.{Ctx, top, inL, inR, under, plug, preG, 
 use Rattle.theory_tree.proofs.Enter.{Entry, Both, OnPage, OnTop, Parts, dv, has, ins-own, parts, repC-frame, roots-is}
 use Rattle.theory_tree.proofs.Enter.{entry-inL, entry-inR, entry-page, entry-half, entry-top, up-room, up-half}
 use Rattle.theory_tree.proofs.Entries.{insAfter, kids, path}
-use Rattle.theory_tree.proofs.Frame.{withPage-other, Agree, roots-all, out-flip}
+use Rattle.theory_tree.proofs.Frame.{Agree, roots-all, out-flip}
 use Rattle.theory_tree.proofs.Leaf.{leafPool, entry-leaf}
-use Rattle.theory_tree.proofs.Lists.{all-app, all-left, all-right, all-map, Out, nd-right, nd-apart, mem-out}
+use Rattle.theory_tree.proofs.Lists.{all-app, all-left, all-right, all-map, Out, mem-out}
 use Rattle.theory_tree.proofs.Pin.{tree-pages}
 use Rattle.theory_tree.proofs.Says.{InnerSays, leaf-says, inner-says}
-use Rattle.theory_tree.proofs.Workers.{setPar}
 use Rattle.theory_tree.proofs.Zip.{plug-pages, unplug-rep}
 use Rattle.theory_stores.proofs.Entering.{says-children, says-count, place-in, entry-long, moved-all, top-long, top-in-long}
 use Rattle.theory_stores.proofs.Keeping.{bytes-zeros, bytes-field, bytes-set-page}
@@ -66,7 +65,7 @@ use Rattle.theory_stores.proofs.Making.{length-headed}
 use Rattle.theory_stores.proofs.Rowing.{cutAfter, bytes-divided}
 use Rattle.theory_stores.proofs.Stepping.{halved-length, halved-bytes}
 use Rattle.theory_stores.proofs.Viewing.{view-page}
-use Rattle.theory_grow.proofs.Growing.{up-more, tied}
+use Rattle.theory_grow.proofs.Growing.{up-more}
 use Rattle.tree_room.proofs.Rooming.{path-above}
 use Rattle.theory_grow.proofs.Settling.{usedAfter, dividedTree}
 

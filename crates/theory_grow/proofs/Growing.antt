@@ -22,7 +22,6 @@ use Rattle.theory_tree.specs.Pages.{Page, innerPage, Pages, withPage}
 use Rattle.theory_tree.specs.Shape.{Shape, node, pair, pagesIn, head, rest, Holds, All}
 use Rattle.theory_tree.specs.View.{view}
 use Rattle.store.proofs.PartLaws.{le-or-lt}
-use Rattle.page.proofs.KeyLaws.{flip-less}
 use Rattle.page.proofs.PageLaws.{length-page}
 use Rattle.leaf.proofs.Bytes.{bytes-page}
 use Rattle.tree_grow.proofs.Entering.{enter-top}

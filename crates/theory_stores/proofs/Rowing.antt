@@ -1,6 +1,6 @@
 -- A leaf that is written from rows, and one that is divided over two pages, as pages as values. Assumes nothing.
 use mathlib.Core.Path.{_≡_, sym, ap, ap₂, _∙_}
-use mathlib.Core.List.{List, [], _∷_, _++_}
+use mathlib.Core.List.{List, _++_}
 use Prim.Native.Nat.{ℕ, _+_, _-_, _≤_, _<_}
 use native.Mathlib.Omega.{arith}
 use lib.ListN.{length, length-replicate}
@@ -17,7 +17,6 @@ use Rattle.theory_tree.specs.View.{said, view}
 use Rattle.store.proofs.LeLaws.{length-putAt, leAt-lt, leAt-putAt, leAt-putAt-above}
 use Rattle.page.proofs.PageLaws.{length-page, length-setPage}
 use Rattle.leaf.proofs.Bytes.{bytes-page}
-use Rattle.leaf.proofs.Rowing.{length-rows}
 use Rattle.leaf.proofs.RowFacts.{rows-are-read, rows-few}
 use Rattle.leaf_divide.proofs.DivideFacts.{divide-divides}
 use Rattle.theory_tree.proofs.Says.{leaf-said, leaf-says}

@@ -6,7 +6,7 @@ use Prim.Native.Nat.{ℕ, zero, suc, _+_, _≤_, _<_}
 use native.Mathlib.Omega.{arith}
 use borrow.Author.Tests.{eqb-true, eqb-false}
 use lib.Dec.{eqb}
-use lib.ListN.{length, drop, take, getD, length-drop, length-replicate}
+use lib.ListN.{length, drop, take, getD, length-drop}
 use Rattle.store.specs.Le.{AreBytes}
 use Rattle.store.specs.Part.{part, pad, zeros}
 use Rattle.page.specs.Page.{page, setPage}

@@ -5,7 +5,7 @@ use mathlib.Core.Bool.{Bool, true, false}
 use Rattle.store.specs.Pick.{pick}
 use Rattle.theory_tree.specs.Pages.{Pages}
 use Rattle.theory_tree.specs.Shape.{Shape, leaf, node, pair, chain, pagesIn, head, rest, first, Holds, Deep, Bounded, Sized, LaterNotZero}
-use mathlib.Core.List.{[], _∷_, _++_, append-assoc, append-nil}
+use mathlib.Core.List.{_∷_, _++_, append-assoc, append-nil}
 use Prim.Native.Nat.{ℕ, suc, _+_, _-_, _≤_, _<_}
 use native.Mathlib.Omega.{arith}
 use native.Mathlib.Nat.{add-zero}

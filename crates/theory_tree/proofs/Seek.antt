@@ -2,7 +2,7 @@
 -- Assumes nothing.
 use Rattle.store.specs.Pick.{pick}
 use Rattle.theory_tree.specs.Shape.{Shape, leaf, node, pair, head, rest, All, Bounded}
-use mathlib.Core.List.{[], _∷_}
+use mathlib.Core.List.{_∷_}
 use Prim.Native.Nat.{ℕ, _≤_}
 use native.Mathlib.Nat.{le-trans}
 use lib.Dec.{leb}

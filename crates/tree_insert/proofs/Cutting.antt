@@ -4,10 +4,8 @@ use mathlib.Core.Path.{_≡_, refl, sym, ap, _∙_, subst}
 use mathlib.Core.Bool.{true}
 use mathlib.Core.List.{List, [], _∷_, _++_}
 use mathlib.Core.Logic.{⊎-elim}
-use Prim.Native.Nat.{ℕ, zero, suc, _+_, _-_, _≤_, _<_}
+use Prim.Native.Nat.{ℕ, suc, _+_, _-_, _≤_, _<_}
 use native.Mathlib.Omega.{arith}
-use borrow.Author.Tests.{leb-true}
-use lib.Dec.{leb}
 use lib.ListN.{length, take, drop, length-append, length-map, length-take, length-drop, take-append-drop}
 use Rattle.store.proofs.PartLaws.{le-or-lt}
 use Rattle.page.specs.Page.{page}
@@ -25,7 +23,6 @@ use Rattle.leaf.proofs.CutFacts.{cut-is-best, sum-append, sum-take, sum-front, 
 use Rattle.leaf.proofs.Rowing.{endOf}
 use Rattle.leaf.proofs.Chain.{Chain, chain-cells, chain-back, chain-right, end-append, judged-leaf}
 use Rattle.tree_insert.proofs.Spotting.{SpotIs}
-use Rattle.store.proofs.Tests.{and-both}
 
 -- ---- sums
 

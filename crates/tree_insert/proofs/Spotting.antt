@@ -30,7 +30,6 @@ use Rattle.tree_insert.specs.Spot.{spotIn, spotOf}
 use Rattle.tree_insert.specs.declared.Spot.{Spot}
 use Rattle.tree_insert.specs.declared.Spotted.{Spotted}
 use Rattle.page.proofs.PageLaws.{length-page}
-use Rattle.row.proofs.Exact.{cell-placed}
 use Rattle.leaf.proofs.Bytes.{bytes-page}
 use Rattle.leaf.proofs.Rowing.{endOf}
 use Rattle.leaf.proofs.Chain.{Chain, chain-cells, judged-leaf, chain-few}

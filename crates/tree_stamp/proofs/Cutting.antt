@@ -6,8 +6,7 @@ use mathlib.Core.List.{List, [], _∷_, _++_}
 use mathlib.Core.Logic.{⊎-elim}
 use Prim.Native.Nat.{ℕ, suc, _+_, _-_, _≤_, _<_}
 use native.Mathlib.Omega.{arith}
-use borrow.Author.Tests.{leb-true}
-use lib.Dec.{ltb, leb}
+use lib.Dec.{ltb}
 use lib.ListN.{length, take, length-append, length-map}
 use Rattle.store.specs.Pick.{pick}
 use Rattle.page.specs.Header.{cellCount}
@@ -26,7 +25,6 @@ use Rattle.leaf.proofs.CutFacts.{cut-is-best, sum-append, sum-take, sum-front, 
 use Rattle.leaf.proofs.Chain.{chain-back}
 use Rattle.tree_stamp.proofs.Meeting.{Stands}
 use Rattle.tree_stamp.proofs.Sums.{sizes-sum, sizes-between}
-use Rattle.store.proofs.Tests.{and-both}
 
 -- one cell alone is not cut
 cut-alone : (t m : ℕ) (xs ys : List ℕ) → length xs ≡ 0 → length ys ≡ 0 → cutOf t (xs ++ (m ∷ ys)) .cells ≡ 0

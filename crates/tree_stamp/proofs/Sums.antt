@@ -1,9 +1,9 @@
 -- Sums of sizes: of two lists, of the first of them, and of the cells that stand one after another. Assumes nothing.
 use mathlib.Core.Path.{_≡_}
-use mathlib.Core.List.{List, [], _∷_, _++_}
-use Prim.Native.Nat.{ℕ, zero, suc, _+_, _≤_, _<_}
+use mathlib.Core.List.{List, [], _∷_}
+use Prim.Native.Nat.{ℕ, _+_, _≤_}
 use native.Mathlib.Omega.{arith}
-use lib.ListN.{length, take}
+use lib.ListN.{length}
 use Rattle.row.specs.declared.Cell.{Cell}
 use Rattle.leaf.specs.Place.{sizesOf}
 use Rattle.leaf.specs.CutFacts.{sum, Between}

@@ -1,5 +1,4 @@
 -- `test_histories::replay` is safe and ends: each turn passes a line.
-use mathlib.Core.Path.{_≡_}
 use Prim.Native.Nat.{_-_}
 use lib.ListN.{length}
 use borrow.Author.Needs.{needs}

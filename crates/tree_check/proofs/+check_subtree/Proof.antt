@@ -1,6 +1,6 @@
 -- `tree_check::check_subtree` meets its contract: the levels below fall at each call; in its loop the children that are
 -- left say what all of them say. Assumes nothing.
-use mathlib.Core.Path.{_≡_, sym, _∙_}
+use mathlib.Core.Path.{_≡_, _∙_}
 use native.Mathlib.Omega.{arith}
 use Rattle.tree_check.specs.Steps.Check.{kidsOf, checkOf}
 use Rattle.tree_check.proofs.Checking.{inner-there, check-last, check-stray, check-kids, kids-end, kids-ill, kids-zero, kids-on}
