@@ -1,6 +1,8 @@
 // The answers of all calls (document 01, section 6): the refusals by name, what a refusal carries, and one enum for each
 // kind of value that Done gives. A call inside answers with a `Refusal`, which has the fault behind a BadTree; the public
 // call gives the number alone.
+#![tactic(auto)]
+
 ghost use Rattle.std.specs.Prelude.{◌≡◌};
 ghost use Rattle.call_answers.specs.Answer.{refusal_of, faulty, hide_state, hide_count, of_stated, of_counted};
 
@@ -44,56 +46,56 @@ pub const TOO_DEEP: u8 = 11;
 pub const SHORT: u8 = 12;
 
 // A refusal's number, and for a BadTree what was met and where.
-#[derive(Drop)]
+#[derive(Clone, Copy)]
 pub struct Refusal {
     pub number: u8,
     pub fault: Fault,
 }
 
 // The version that a lookup finds, with its page; taken apart by `let else`.
-#[derive(Drop)]
+#[derive(Clone, Copy)]
 pub enum Looked {
     At(u32, Cell),
     Refused(Refusal),
 }
 
 // A version, its data a part of the pool; or the refusal's number.
-#[derive(Drop)]
+#[derive(Clone, Copy)]
 pub enum Found {
     Done(Version),
     Refused(u8),
 }
 
 // Yes or no; or the refusal's number.
-#[derive(Drop)]
+#[derive(Clone, Copy)]
 pub enum YesNo {
     Done(bool),
     Refused(u8),
 }
 
 // The new state, or the refusal with the fault behind a BadTree.
-#[derive(Drop)]
+#[derive(Clone, Copy)]
 pub enum Changed {
     Done(State),
     Refused(Refusal),
 }
 
 // The new state, or the refusal's number.
-#[derive(Drop)]
+#[derive(Clone, Copy)]
 pub enum Stated {
     Done(State),
     Refused(u8),
 }
 
 // Bytes written or versions dropped, or the refusal with the fault behind a BadTree.
-#[derive(Drop)]
+#[derive(Clone, Copy)]
 pub enum CountedAt {
     Done(usize),
     Refused(Refusal),
 }
 
 // Bytes written or versions dropped, or the refusal's number.
-#[derive(Drop)]
+#[derive(Clone, Copy)]
 pub enum Counted {
     Done(usize),
     Refused(u8),

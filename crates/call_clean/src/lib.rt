@@ -1,5 +1,7 @@
 // Remove and vacuum (document 01, sections 5 and 6; btree.rs): each takes any pool, state and lists, judges the whole chain
 // that it goes along, and only then stores. These calls ask nothing of their caller; the walks of the modules do.
+#![tactic(auto)]
+
 pub mod remove;
 pub mod vacuum;
 

@@ -10,7 +10,7 @@ use page::PAGE_SIZE;
 use row::Fault;
 
 // How many versions of the key a walk meets, or its fault.
-#[derive(Drop)]
+#[derive(Clone, Copy)]
 pub enum ChainCount {
     Ok(usize),
     Bad(Fault),

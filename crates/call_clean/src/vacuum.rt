@@ -11,7 +11,7 @@ use page::PAGE_SIZE;
 use row::Fault;
 
 // Every leaf of a chain is judged well; or the first fault.
-#[derive(Drop)]
+#[derive(Clone, Copy)]
 pub enum ChainJudged {
     Ok,
     Bad(Fault),

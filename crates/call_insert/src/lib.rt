@@ -1,6 +1,8 @@
 // The calls that insert (document 01, section 6; btree.rs): each takes any pool, state, lists and row, judges
 // them itself on the unchanged pool, and only then stores. A refused call changes nothing. No function here asks
 // anything of its caller.
+#![tactic(auto)]
+
 ghost use Rattle.std.specs.Prelude.{◌≡◌};
 ghost use Rattle.page.specs.Key.{rank_of};
 ghost use Rattle.call_answers.specs.Answer.{ended, of_stated};

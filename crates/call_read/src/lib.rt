@@ -1,5 +1,7 @@
 // Create, and the reading calls (document 01, section 6; btree.rs): each takes any pool, state, snapshot and
 // lists, judges them itself, and answers by the table. No function here asks anything of its caller.
+#![tactic(auto)]
+
 ghost use Rattle.std.specs.Prelude.{◌≡◌};
 ghost use Rattle.page.specs.Key.{rank_of};
 ghost use Rattle.call_answers.specs.Answer.{of_found, of_yes_no, of_counted, of_stated, written, ended};

@@ -1,5 +1,7 @@
 // The calls that stamp (document 01, sections 4 to 6; btree.rs, mark_deleted_visible): stamp, plain stamp, plain delete, and
 // claim, in which the conflict test and the stamp are one call. These ask nothing of their caller.
+#![tactic(auto)]
+
 ghost use Rattle.std.specs.Prelude.{◌≡◌, true};
 ghost use Rattle.page.specs.Key.{rank_of};
 ghost use Rattle.call_answers.specs.Answer.{ended, of_stated};

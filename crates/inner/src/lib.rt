@@ -1,5 +1,7 @@
 // An internal page (document 01, sections 2, 3 and 5; btree.rs): its keys and children, its judgement, and the
 // child that a key leads to. Crate `inner_edit` enters, divides and makes internal pages.
+#![tactic(auto)]
+
 ghost use Rattle.std.specs.Prelude.{◌≡◌, true, ◌≤◌, ◌<◌, leb, length};
 ghost use Rattle.inner.specs.Inner.{key_at, child_at, keys_from, children_from, never_falls, judge_inner};
 ghost use Rattle.inner.specs.Route.{first_where, search_route, insert_route, child_place};
@@ -14,7 +16,7 @@ pub const MAX_CHILDREN: usize = 511;
 pub const FULL: u16 = 510;
 
 // How many keys the page has, or its fault.
-#[derive(Drop)]
+#[derive(Clone, Copy)]
 pub enum InnerJudged {
     Ok(usize),
     Bad(Fault),

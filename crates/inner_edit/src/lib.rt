@@ -1,5 +1,7 @@
 // Edits of internal pages (document 01, section 5; btree.rs, insert_in_parent and split_internal): in place on the lent
 // page, and for a division right half first into the fresh page, then the left half in place.
+#![tactic(auto)]
+
 ghost use Rattle.std.specs.Prelude.{◌≡◌, ◌++◌, ℕ, ◌+◌, ◌-◌, ◌*◌, ◌≤◌, ◌<◌, length};
 ghost use Rattle.store.specs.Part.{part, put, pad};
 ghost use Rattle.page.specs.Page.{page, set_page};

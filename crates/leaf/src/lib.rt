@@ -1,6 +1,8 @@
 // One leaf page (document 01, sections 2, 3 and 5; btree.rs): its judgement. Module find looks for something in
 // it, module place says where a new cell goes and where a leaf is cut. Crates `leaf_edit`, `leaf_divide` and
 // `leaf_vacuum` change leaves.
+#![tactic(auto)]
+
 pub mod find;
 pub mod place;
 
@@ -12,7 +14,7 @@ ghost use Rattle.leaf.specs.Steps.Cells.{step_end, step_fault};
 use row::Fault;
 
 // Where the cells end, or the first fault in reading order.
-#[derive(Drop)]
+#[derive(Clone, Copy)]
 pub enum Judged {
     Ok(usize),
     Bad(Fault),

@@ -6,28 +6,28 @@ ghost use Rattle.leaf.specs.Place.{past_cell, place_leaf, larger_side, better_cu
 use row::Fault;
 
 // The offset of a new cell, and how many cells stand before it.
-#[derive(Drop)]
+#[derive(Clone, Copy)]
 pub struct Place {
     pub at: usize,
     pub before: usize,
 }
 
 // The place, and where the leaf's cells end; or the leaf's fault.
-#[derive(Drop)]
+#[derive(Clone, Copy)]
 pub enum LeafPlace {
     Ok(Place, usize),
     Bad(Fault),
 }
 
 // How many cells, and how many of their bytes, stay on the left.
-#[derive(Drop)]
+#[derive(Clone, Copy)]
 pub struct Cut {
     pub cells: usize,
     pub bytes: usize,
 }
 
 // The cells passed so far, and the best cut among them.
-#[derive(Drop)]
+#[derive(Clone, Copy)]
 pub struct Cutting {
     pub left: Cut,
     pub best: Cut,

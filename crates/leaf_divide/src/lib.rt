@@ -1,6 +1,8 @@
 // A leaf divided over two pages of the pool (document 01, section 5; btree.rs, split_leaf): page p keeps the left side,
 // page q, fresh, takes the right side. The leaf is parted as it stands, and what overfilled it, a new cell or a stamp,
 // is then done on the side where it falls, so that no image of the overfull leaf and no buffer of a cell is needed.
+#![tactic(auto)]
+
 ghost use Rattle.std.specs.Prelude.{◌≡◌, ◌++◌, ◌+◌, ◌-◌, ◌*◌, ◌≤◌, ◌<◌, length};
 ghost use Rattle.store.specs.Part.{part, pad, spliced, zeros};
 ghost use Rattle.page.specs.Page.{page, set_page};

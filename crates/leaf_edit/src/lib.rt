@@ -1,5 +1,7 @@
 // Edits of one leaf page, in place on the lent page (document 01, sections 2 and 5; btree.rs, write_all_rows_to_leaf): one
 // move of the tail and the count, zeros after the last cell, bytes 8 to 11 kept. No buffer ever holds a cell.
+#![tactic(auto)]
+
 ghost use Rattle.std.specs.Prelude.{◌≡◌, ◌+◌, ◌-◌, ◌≤◌, ◌<◌, length};
 ghost use Rattle.store.specs.Le.{put_at};
 ghost use Rattle.store.specs.Part.{pad, spliced};

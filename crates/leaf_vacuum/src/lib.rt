@@ -1,4 +1,6 @@
 // Vacuum of one leaf (document 01, section 5; btree.rs, vacuum_deleted_versions): cell by cell in place on the lent page.
+#![tactic(auto)]
+
 ghost use Rattle.std.specs.Prelude.{◌≡◌, false, ◌≤◌, ◌<◌, length};
 ghost use Rattle.row.specs.Read.{cell_at};
 ghost use Rattle.row.specs.Write.{stamp_len};
@@ -15,7 +17,7 @@ use mvcc::vacuum::Fate;
 use row::Cell;
 
 // How many cells went, and whether the page changed.
-#[derive(Drop)]
+#[derive(Clone, Copy)]
 pub struct Vacuumed {
     pub dropped: usize,
     pub changed: bool,

@@ -1,6 +1,6 @@
 -- The table of listed pages, one bit a page: what a bit that is set changes, and what it leaves. Assumes nothing.
 use mathlib.Core.Path.{◌≡◌, refl, sym, ap, ◌∙◌}
-use mathlib.Core.Bool.{Bool, true, false, ◌||◌, or_true, or-false}
+use mathlib.Core.Bool.{Bool, true, false, ◌||◌, or-true, or-false}
 use mathlib.Core.List.{List}
 use mathlib.Core.Logic.{⊎_elim}
 use Prim.Native.Nat.{ℕ, zero, suc, ◌+◌, ◌/◌, ◌%◌, ◌<◌}
@@ -99,7 +99,7 @@ module _ (seen : List ℕ) (table : Table seen) (p : ℕ) (in-range : p < 65536)
       by_place true t h =
           let same : p ≡ q = omega (arith, eqb-true (p % 8) (q % 8) t) in
           let set : bit_at (with_bit seen p) p ≡ true = bit_at_lem (with_bit seen p) p _ (fits-set e) ∙ eq-eqb _ 1 (bit_set (p % 8) (le_at 1 seen (p / 8)) (bit_clear seen p e)) in
-          rw (← same, set, eq-eqb p p refl, or_true)
+          rw (← same, set, eq-eqb p p refl, or-true)
       by_place false t h =
           let other = eqb-false (p % 8) (q % 8) t in
           let differ : p ≡ q → ⊥ = (λ u. other (ap (λ (n : ℕ). n % 8) u)) in
@@ -119,7 +119,7 @@ module _ (seen : List ℕ) (table : Table seen) (p : ℕ) (in-range : p < 65536)
   old_bit e q = rw (with_set seen p e) (by_page (eqb p q) refl)
     where
       by_page : (b : Bool) → eqb p q ≡ b → bit_at seen q ≡ (bit_at seen q || b)
-      by_page true t = rw or_true (rw (eqb-true p q t) at e)
+      by_page true t = rw or-true (rw (eqb-true p q t) at e)
       by_page false t = rw or-false refl
 
   pub bit_with : (q : ℕ) → bit_at (with_bit seen p) q ≡ (bit_at seen q || eqb p q)

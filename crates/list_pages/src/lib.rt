@@ -1,6 +1,8 @@
 // The listing of page numbers (document 01, section 2; btree.rs, page_numbers): a page, then its children's subtrees from
 // the last child to the first. A page already listed is skipped; one that is its own ancestor is a fault. The same walk
 // first counts and then writes; its table of listed pages, one bit a page, is lent down.
+#![tactic(auto)]
+
 ghost use Rattle.std.specs.Prelude.{◌≡◌, [], ◌+◌, ◌*◌, ◌/◌, ◌%◌, ◌≤◌, ◌<◌, length};
 ghost use Rattle.mvcc.specs.Lists.{mem};
 ghost use Rattle.call_answers.specs.Answer.{written};
@@ -18,14 +20,14 @@ pub const TABLE: usize = 8192;
 pub const RECORD: usize = 10;
 
 // The pages above, the root's first.
-#[derive(Drop)]
+#[derive(Clone, Copy)]
 pub struct Line {
     pub pages: [u32; 4],
     pub len: usize,
 }
 
 // What is to be done with a page: a fault, nothing, or it is listed and so many children are visited.
-#[derive(Drop)]
+#[derive(Clone, Copy)]
 pub enum Top {
     Bad(Fault),
     Skip,
@@ -33,7 +35,7 @@ pub enum Top {
 }
 
 // How many are listed, or the fault that was met.
-#[derive(Drop)]
+#[derive(Clone, Copy)]
 pub enum Numbered {
     Ok(usize),
     Bad(Fault),

@@ -1,4 +1,6 @@
 // What all listings share (document 01, sections 2 and 6): how one ends, and its records at the start of the output.
+#![tactic(auto)]
+
 ghost use Rattle.std.specs.Prelude.{◌≡◌, ◌+◌, ◌≤◌, ◌<◌, length};
 ghost use Rattle.store.specs.Part.{put};
 ghost use Rattle.row.specs.Write.{record_bytes};
@@ -6,7 +8,7 @@ ghost use Rattle.row.specs.Write.{record_bytes};
 use row::Fault;
 
 // How a listing ends: its length; or the output is too short for it; or the first fault that was met.
-#[derive(Drop)]
+#[derive(Clone, Copy)]
 pub enum Listing {
     Done(usize),
     Short,

@@ -1,5 +1,7 @@
 // The versions of one key, or all versions, in chain order (document 01, sections 2 and 4; btree.rs, versions_of and
 // all_versions): in each leaf they stand together, so that a leaf's part of the listing is a run of its cells.
+#![tactic(auto)]
+
 ghost use Rattle.std.specs.Prelude.{◌≡◌, ◌+◌, ◌*◌, ◌≤◌, ◌<◌, length};
 ghost use Rattle.store.specs.Part.{put};
 ghost use Rattle.leaf.specs.Cells.{cells_of};
@@ -17,21 +19,21 @@ use row::Fault;
 use tree::{Descent, Route};
 
 // The versions that are listed: all, or those of one key.
-#[derive(Drop)]
+#[derive(Clone, Copy)]
 pub enum Which {
     All,
     Key(u32),
 }
 
 // The length of a listing, or the first fault of its chain.
-#[derive(Drop)]
+#[derive(Clone, Copy)]
 pub enum ChainSize {
     Ok(usize),
     Bad(Fault),
 }
 
 // What a second walk over a judged leaf needs: where the run starts, how many cells it has, and whether the walk ends.
-#[derive(Drop)]
+#[derive(Clone, Copy)]
 pub struct Again {
     pub from: usize,
     pub count: usize,

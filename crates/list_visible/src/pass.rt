@@ -17,7 +17,7 @@ ghost use Rattle.list_visible.specs.Steps.Fast.{record_size, waiting_for, step_f
 use mvcc::Current;
 
 // A version that is chosen for its key: where its cell lies in the pool.
-#[derive(Drop)]
+#[derive(Clone, Copy)]
 pub struct Chosen {
     pub from: usize,
     pub to: usize,
@@ -26,14 +26,14 @@ pub struct Chosen {
 }
 
 // The version that is listed as soon as another key comes, if any.
-#[derive(Drop)]
+#[derive(Clone, Copy)]
 pub enum Wait {
     Nothing,
     For(Chosen),
 }
 
 // What waits for another key, and the length of what is listed before it.
-#[derive(Drop)]
+#[derive(Clone, Copy)]
 pub struct Scan {
     pub wait: Wait,
     pub size: usize,

@@ -1,6 +1,6 @@
 -- A call on a tree changes that tree's pages and pages that it takes: every other page in use stays as it was. Assumes nothing.
 use mathlib.Core.Path.{◌≡◌, refl, sym, subst}
-use mathlib.Core.Bool.{Bool, true, false, or_true}
+use mathlib.Core.Bool.{Bool, true, false, or-true}
 use mathlib.Core.List.{List, [], ◌∷◌, ◌++◌}
 use mathlib.Core.Option.{Option, none, some}
 use Prim.Native.Nat.{ℕ, ◌+◌, ◌/◌, ◌≤◌, ◌<◌}
@@ -78,7 +78,7 @@ use Rattle.meaning.proofs.Changing.{conflict-told}
 mem-there : (p : ℕ) (a b : List ℕ) → mem p (a ++ (p ∷ b)) ≡ true
 unfolding mem
 mem-there p [] b = rw (eq-eqb p p refl) refl
-mem-there p (y ∷ a) b = rw (mem-there p a b) (or_true (eqb y p))
+mem-there p (y ∷ a) b = rw (mem-there p a b) (or-true (eqb y p))
 
 module _ (g : Grown) (t : Shape) (tree : TreeIn g t) where
   abbrev s : List ℕ

@@ -1,7 +1,7 @@
 -- Laws of the definitions in specs/Lists: the turns of the judging loops, and how the number of elements below x tells
 -- membership and lookup in a rising list. Upper crates cite them, and open no definition. Assumes nothing.
 use mathlib.Core.Path.{◌≡◌, refl, sym}
-use mathlib.Core.Bool.{Bool, true, false, ◌&&◌, or_true, and-eq-true_iff}
+use mathlib.Core.Bool.{Bool, true, false, ◌&&◌, or-true, and-eq-true_iff}
 use mathlib.Core.List.{List, [], ◌∷◌}
 use mathlib.Core.Logic.{⊎_elim}
 use Prim.Native.Nat.{ℕ, zero, suc, ◌+◌, ◌≤◌, ◌<◌, zero-le, suc-le-suc}
@@ -131,7 +131,7 @@ mem_at : (x : ℕ) (l : List ℕ) (m : ℕ) → m < length l → get_or l m 0 �
 unfolding mem
 mem_at x [] m h e = absurd (not-suc-le-zero h)
 mem_at x (y ∷ ys) zero h e = rw (eq-eqb y x e)
-mem_at x (y ∷ ys) (suc m) h e = rw (mem_at x ys m (le_of_suc-le-suc h) e) (or_true (eqb y x))
+mem_at x (y ∷ ys) (suc m) h e = rw (mem_at x ys m (le_of_suc-le-suc h) e) (or-true (eqb y x))
 
 mem-none : (x : ℕ) (l : List ℕ) → ((k : ℕ) → k < length l → get_or l k 0 ≡ x → ⊥) → mem x l ≡ false
 unfolding mem

@@ -1,7 +1,7 @@
 -- Laws of the rules in specs/Rules and specs/Vacuum: one for each way out of the code that decides them, so that a
 -- proof file only says which tests led there. Assumes nothing.
 use mathlib.Core.Path.{◌≡◌}
-use mathlib.Core.Bool.{Bool, true, false, not, and-true, and_false, or_true}
+use mathlib.Core.Bool.{Bool, true, false, not, and-true, and-false, or-true}
 use mathlib.Core.List.{List}
 use Prim.Native.Nat.{ℕ, ◌≤◌, ◌<◌}
 use borrow.Author.Tests.{lt-ltb, le-ltb, le-leb, lt-leb, eq-eqb, ne_eqb}
@@ -39,15 +39,15 @@ module _ (xmax : ℕ) (active : List ℕ) (s t : ℕ) where
 
     pub unfinished_running : s ≡ 1 → false ≡ finished_with xmax active s t
     unfolding finished_with
-    unfinished_running e = simp (ne_eqb t 0 n, eq-eqb s 1 e, and_false)
+    unfinished_running e = simp (ne_eqb t 0 n, eq-eqb s 1 e, and-false)
 
     pub unfinished_aborted : s ≡ 3 → false ≡ finished_with xmax active s t
     unfolding finished_with
-    unfinished_aborted e = simp (ne_eqb t 0 n, eq-eqb s 3 e, or_true, and_false)
+    unfinished_aborted e = simp (ne_eqb t 0 n, eq-eqb s 3 e, or-true, and-false)
 
     pub unfinished_active : mem t active ≡ true → false ≡ finished_with xmax active s t
     unfolding finished_with
-    unfinished_active e = simp (ne_eqb t 0 n, e, and_false)
+    unfinished_active e = simp (ne_eqb t 0 n, e, and-false)
 
     pub finished_else : t < xmax → (s ≡ 1 → ⊥) → (s ≡ 3 → ⊥) → mem t active ≡ false → true ≡ finished_with xmax active s t
     unfolding finished_with
@@ -99,7 +99,7 @@ module _ (sn : Snapshot) (t : ℕ) where
 
   pub intruding_own : is_current sn.current t ≡ true → false ≡ intruding sn t
   unfolding intruding
-  intruding_own e = simp (e, and_false)
+  intruding_own e = simp (e, and-false)
 
   -- what changed after is asked for any current transaction: it plays no part in that
   pub intruding_else : (cur : Current) → is_current sn.current t ≡ false → changed_after (snapshot sn.xmax sn.active cur) t ≡ intruding sn t
@@ -125,11 +125,11 @@ module _ (sn : Snapshot) (seen c : ℕ) (stamp : Stamp) where
 module _ (bound d s : ℕ) where
   pub stamped_aborted : s ≡ 3 → Fate.Cleared ≡ stamped_fate bound d s
   unfolding stamped_fate
-  stamped_aborted e = simp (e, and_false)
+  stamped_aborted e = simp (e, and-false)
 
   pub stamped-other : (s ≡ 3 → ⊥) → (s ≡ 2 → ⊥) → Fate.Same ≡ stamped_fate bound d s
   unfolding stamped_fate
-  stamped-other a b = simp (ne_eqb s 3 a, ne_eqb s 2 b, and_false)
+  stamped-other a b = simp (ne_eqb s 3 a, ne_eqb s 2 b, and-false)
 
   pub stamped_old : s ≡ 2 → d < bound → Fate.Dropped ≡ stamped_fate bound d s
   unfolding stamped_fate

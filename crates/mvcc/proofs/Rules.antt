@@ -1,7 +1,7 @@
 -- The record `RulesHold` of specs/Facts: what section 4's rules say of the cases that readers ask for, and P7 and P8.
 -- Assumes nothing.
 use mathlib.Core.Path.{◌≡◌, refl, sym, ◌∙◌}
-use mathlib.Core.Bool.{true, false, and_false, or_true}
+use mathlib.Core.Bool.{true, false, and-false, or-true}
 use mathlib.Core.List.{List}
 use Prim.Native.Nat.{ℕ, ◌<◌}
 use borrow.Author.Tests.{lt-ltb, eq-eqb, ne_eqb}
@@ -16,7 +16,7 @@ use Rattle.mvcc.proofs.RuleLaws.{finished_zero, unseen_aborted, seen_own}
 
 absent_finished : (sn : Snapshot) (st : ℕ → ℕ) (t : ℕ) → st t ≡ 0 → t < sn.xmax → mem t sn.active ≡ false → finished_before sn st t ≡ true
 unfolding finished_before finished_with
-absent_finished sn st t e h m = simp (e, lt-ltb t sn.xmax h, m, or_true)
+absent_finished sn st t e h m = simp (e, lt-ltb t sn.xmax h, m, or-true)
 
 zero_finished : (sn : Snapshot) (st : ℕ → ℕ) → finished_before sn st 0 ≡ true
 unfolding finished_before
@@ -38,11 +38,11 @@ module _ (xmax : ℕ) (active : List ℕ) (st : ℕ → ℕ) (c : ℕ) where
 
   own_gone : visible (snapshot xmax active (Current.Tx c)) st c (Stamp.By c) ≡ false
   unfolding visible of_deleter is_current
-  own_gone = simp (eq-eqb c c refl, and_false)
+  own_gone = simp (eq-eqb c c refl, and-false)
 
 unlisted_kept : (st : ℕ → ℕ) (bound d : ℕ) → st d ≡ 0 → removable_deleter st bound (Stamp.By d) ≡ false
 unfolding removable_deleter of_deleter
-unlisted_kept st bound d e = simp (e, and_false)
+unlisted_kept st bound d e = simp (e, and-false)
 
 pub rules_hold : RulesHold
 unfolding mem state_at is_current of_deleter finished_with finished_before hiding visible changed_after intruding conflicting claim_conflicting aborted_creator removable_deleter aborted_deleter dropped fate

@@ -1,5 +1,7 @@
 // Who sees what (document 01, section 4; mvcc.rs): snapshots and status lists are judged once per call and then
 // searched by halves; one version is tested at a time. Module vacuum has section 5's removal rules.
+#![tactic(auto)]
+
 pub mod lists;
 pub mod vacuum;
 
@@ -12,7 +14,7 @@ ghost use Rattle.mvcc.specs.Rules.{is_current, of_deleter, finished_with, hiding
 use row::Stamp;
 
 // Nobody and Tx(0) are different inputs.
-#[derive(Drop)]
+#[derive(Clone, Copy)]
 pub enum Current {
     Nobody,
     Tx(u64),

@@ -9,7 +9,7 @@ use crate::lists::status_of;
 use row::Stamp;
 
 // Dropped, kept with its stamp cleared, or kept as it is.
-#[derive(Drop)]
+#[derive(Clone, Copy)]
 pub enum Fate {
     Dropped,
     Cleared,

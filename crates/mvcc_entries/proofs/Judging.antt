@@ -1,7 +1,7 @@
 -- The pure part of judging entries in one pass. Invariant: the flag, that what is left rises after the entry before it,
 -- and that what is left is states, say together what the whole list says. Assumes nothing.
 use mathlib.Core.Path.{◌≡◌, refl, sym, ◌∙◌}
-use mathlib.Core.Bool.{Bool, true, false, ◌&&◌, ◌||◌, and-true, and_false}
+use mathlib.Core.Bool.{Bool, true, false, ◌&&◌, ◌||◌, and-true, and-false}
 use mathlib.Core.List.{List, [], ◌∷◌}
 use mathlib.Core.WellFounded.InvImage
 use mathlib.Core.WellFounded.{WellFounded}
@@ -58,7 +58,7 @@ module _ (es : List Entry) where
 -- a test of the head and the rest after it, twice, beside a flag
 regroup : (ok a b r s : Bool) → (ok && ((a && r) && (b && s))) ≡ ((ok && (a && b)) && (r && s))
 regroup true true true r s = refl
-regroup true true false r s = and_false r
+regroup true true false r s = and-false r
 regroup true false b r s = refl
 regroup false a b r s = refl
 

@@ -1,5 +1,7 @@
 // A status list as the server lends it: one slice of small structs (document 01, section 4). Only this crate names
 // `&[Entry]`; it judges, searches and unpacks such a list, and the rules are mvcc's, on two number slices.
+#![tactic(auto)]
+
 ghost use Rattle.std.specs.Prelude.{◌≡◌, true, [], ◌∷◌, ◌<◌, ◌≤◌, length, get_or};
 ghost use Rattle.store.specs.Part.{put};
 ghost use Rattle.mvcc.specs.Lists.{rising};
@@ -10,7 +12,7 @@ ghost use Rattle.mvcc_entries.specs.Entries.{txs, sts, status_call, room_code, U
 
 // A transaction and its state, 16 bytes in C's layout.
 #[repr(C)]
-#[derive(Drop)]
+#[derive(Clone, Copy)]
 pub struct Entry {
     pub tx: u64,
     pub state: u8,

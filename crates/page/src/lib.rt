@@ -21,6 +21,8 @@
 //     +---------+---------+---------+---------+---------+-- .. --+
 //     | child 0 |  key 0  | child 1 |  key 1  | child 2 |        |    each four bytes; key i at 16 + 8 * i,
 //     +---------+---------+---------+---------+---------+-- .. --+    child i at 12 + 8 * i, left of key i
+#![tactic(auto)]
+
 pub mod key;
 pub mod pool;
 

@@ -10,14 +10,14 @@ use crate::PAGE_SIZE;
 pub const MAX_PAGES: usize = 65536;
 
 // The numbers of a tree that are not in its pages.
-#[derive(Drop)]
+#[derive(Clone, Copy)]
 pub struct State {
     pub root: u32,
     pub used: u32,
 }
 
 // A page that was handed out, and the state after that.
-#[derive(Drop)]
+#[derive(Clone, Copy)]
 pub struct Allocated {
     pub page: u32,
     pub state: State,

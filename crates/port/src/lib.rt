@@ -8,6 +8,8 @@
 // A call returns 0 Done, 1 BadPool, 2 BadTree, 3 BadSnapshot, 4 BadStatuses, 5 BadData, 6 Duplicate, 7 Conflict,
 // 8 Absent, 9 Undividable, 10 NoPages, 11 TooDeep or 12 Short; of several that hold, the first in the order in
 // which the call names them. A refused call writes nothing.
+#![tactic(auto)]
+
 pub mod change;
 
 ghost use Rattle.std.specs.Prelude.{◌≡◌, length};

@@ -20,6 +20,8 @@
 //
 // So a cell is 19 bytes and its data when live and unpointed, and at most 33 and its data. A listing's record
 // is a u32 length of what follows, a u16 kind (1), and the cell.
+#![tactic(auto)]
+
 pub mod read;
 pub mod write;
 
@@ -33,21 +35,21 @@ pub const MVCC_ROW_PAYLOAD_FORMAT_VERSION: u8 = 0x81;
 pub const MAX_DATA: usize = 4051;
 
 // The deleter of a version, whatever became of that transaction; without one the version is live.
-#[derive(Drop)]
+#[derive(Clone, Copy)]
 pub enum Stamp {
     Absent,
     By(u64),
 }
 
 // The version pointer: a page and slot, kept as they are and never followed.
-#[derive(Drop)]
+#[derive(Clone, Copy)]
 pub enum Pointer {
     Absent,
     At { page: u32, slot: u16 },
 }
 
 // The data is a place in the bytes that were read: where it starts, and its length.
-#[derive(Drop)]
+#[derive(Clone, Copy)]
 pub struct Version {
     pub creator: u64,
     pub stamp: Stamp,
@@ -57,7 +59,7 @@ pub struct Version {
 }
 
 // From offset at to offset next; the key is its rank.
-#[derive(Drop)]
+#[derive(Clone, Copy)]
 pub struct Cell {
     pub at: usize,
     pub key: u32,
@@ -66,7 +68,7 @@ pub struct Cell {
 }
 
 // What was met where a page cannot be read on: kind 1 to 4 and the offset of the cell; 0 and 0 for the page's structure.
-#[derive(Drop)]
+#[derive(Clone, Copy)]
 pub struct Fault {
     pub kind: u8,
     pub page: u32,

@@ -8,14 +8,14 @@ ghost use Rattle.row.specs.Steps.Read.{head_at, end_at};
 use crate::{Cell, MAX_DATA, MVCC_ROW_PAYLOAD_FORMAT_VERSION, Pointer, Stamp, Version};
 
 // Where the pointer's flag stands and where the data starts, or the kind of fault.
-#[derive(Drop)]
+#[derive(Clone, Copy)]
 pub enum HeadRead {
     Got(usize, usize),
     Bad(u8),
 }
 
 // The cell that was read, or the kind of its fault, 1 to 4.
-#[derive(Drop)]
+#[derive(Clone, Copy)]
 pub enum CellRead {
     Got(Cell),
     Bad(u8),

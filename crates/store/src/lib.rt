@@ -1,6 +1,8 @@
 // Numbers of 1, 2, 4 and 8 bytes in a lent byte slice, little-endian (document 01, section 2; page.rs).
 // Each read and write is one equation to one definition over the width; module run moves runs of bytes.
 // Wider numbers are read by halves: the compiler makes one load of that.
+#![tactic(auto)]
+
 pub mod run;
 
 ghost use Rattle.std.specs.Prelude.{◌≡◌, ◌+◌, ◌<◌, ◌≤◌, length};

@@ -15,7 +15,7 @@ const ROOM: usize = 8192;
 const GUARD: u8 = 165;
 
 // What a case came to: as recorded (the first three), otherwise, or a line that says no case.
-#[derive(Drop)]
+#[derive(Clone, Copy)]
 pub enum Outcome {
     Wrote,
     ReadCell,

@@ -5,7 +5,7 @@ use test_text::NumberText;
 use test_text::fields::{Head, HeadText};
 
 // The recorded answer, or a text that is none.
-#[derive(Drop)]
+#[derive(Clone, Copy)]
 pub enum AnswerText {
     Got(CellRead),
     Bad,

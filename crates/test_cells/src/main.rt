@@ -1,5 +1,7 @@
 // Replays the recorded cell cases (standard input; its header says what a line means) against the reader and the
 // writer of `row`: a line for each case, then the listing record of document 01, section 2, then the counts.
+#![tactic(auto)]
+
 ghost use Rattle.std.specs.Prelude.{◌≤◌};
 
 mod case;

@@ -1,6 +1,8 @@
 // Replays the recorded calls (standard input; its header says what a line means) by the writing calls. The program's own
 // pool is made by these calls alone, the other one is put together from the list, and after each case every byte of the
 // pages in use is compared.
+#![tactic(auto)]
+
 ghost use Rattle.std.specs.Prelude.{◌≡◌, ◌<◌, ◌≤◌, length};
 
 mod data;
@@ -23,7 +25,7 @@ const PAGES: u64 = 520;
 const POOL: usize = 2129920;
 
 // The tree's numbers; the pages that either pool has in use; the versions that the case has dropped.
-#[derive(Drop)]
+#[derive(Clone, Copy)]
 struct Run {
     root: u32,
     used: u32,

@@ -8,7 +8,7 @@ const MAX16: u64 = 65535;
 const MAX32: u64 = 4294967295;
 
 // A key, and its version but for the data.
-#[derive(Drop)]
+#[derive(Clone, Copy)]
 pub struct Head {
     pub key: u32,
     pub creator: u64,
@@ -17,21 +17,21 @@ pub struct Head {
 }
 
 // The stamp that a field spells, or a field that spells none.
-#[derive(Drop)]
+#[derive(Clone, Copy)]
 pub enum StampText {
     Got(Stamp),
     Bad,
 }
 
 // The pointer that a field spells, or a field that spells none.
-#[derive(Drop)]
+#[derive(Clone, Copy)]
 pub enum PointerText {
     Got(Pointer),
     Bad,
 }
 
 // The key and version that a line spells, or a line that spells none.
-#[derive(Drop)]
+#[derive(Clone, Copy)]
 pub enum HeadText {
     Got(Head),
     Bad,

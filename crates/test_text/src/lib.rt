@@ -1,12 +1,14 @@
 // The text of a recorded list: the fields of a line, with one space between two, and numbers and byte strings in
 // hexadecimal. A field that is not there is empty, and no number or byte string is. Module fields reads a version's.
+#![tactic(auto)]
+
 pub mod fields;
 
 ghost use Rattle.std.specs.Prelude.{length};
 ghost use Rattle.test_text.specs.Within.{Within};
 
 // The number that a text spells, or a text that spells none.
-#[derive(Drop)]
+#[derive(Clone, Copy)]
 pub enum NumberText {
     Got(u64),
     Bad,

@@ -1,5 +1,7 @@
 // Draws cases for the rules of `mvcc`, and compares its answers with those recorded of aerodb (standard input; its header
 // says what a digit means, and how the list was made): counts, then how many differ.
+#![tactic(auto)]
+
 mod case;
 mod draw;
 mod tally;

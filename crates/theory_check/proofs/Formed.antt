@@ -1,7 +1,7 @@
 -- The judgement of section 3 says yes exactly for a well-formed tree: the tree that is read off a pool that is judged well
 -- is well-formed, and a pool that holds a well-formed tree is judged well. Assumes nothing.
 use mathlib.Core.Path.{◌≡◌, refl, sym, ap, ◌∙◌, subst}
-use mathlib.Core.Bool.{Bool, true, false, ◌&&◌, ◌||◌, or_true}
+use mathlib.Core.Bool.{Bool, true, false, ◌&&◌, ◌||◌, or-true}
 use mathlib.Core.List.{List, [], ◌∷◌, ◌++◌, map, map-append}
 use Prim.Native.Nat.{ℕ, zero, suc, ◌≤◌, ◌<◌}
 use native.Mathlib.Omega.{arith}
@@ -202,9 +202,9 @@ module _ (used root : ℕ) (s : List ℕ) where
   any_level : (n : ℕ) → n ≤ 3 → well_at s used root n ≡ true → is_well_formed s used root ≡ true
   unfolding is_well_formed
   any_level zero h e = rw e
-  any_level (suc zero) h e = rw e (or_true (well_at s used root 0))
-  any_level (suc (suc zero)) h e = rw (e, or_true (well_at s used root 1)) (or_true (well_at s used root 0))
-  any_level (suc (suc (suc zero))) h e = rw (e, or_true (well_at s used root 2), or_true (well_at s used root 1)) (or_true (well_at s used root 0))
+  any_level (suc zero) h e = rw e (or-true (well_at s used root 0))
+  any_level (suc (suc zero)) h e = rw (e, or-true (well_at s used root 1)) (or-true (well_at s used root 0))
+  any_level (suc (suc (suc zero))) h e = rw (e, or-true (well_at s used root 2), or-true (well_at s used root 1)) (or-true (well_at s used root 0))
   any_level (suc (suc (suc (suc n)))) h e = absurd (omega arith)
 
   some_level : is_well_formed s used root ≡ true → (n : ℕ) × (n ≤ 3) × (well_at s used root n ≡ true)

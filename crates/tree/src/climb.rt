@@ -8,14 +8,14 @@ use inner::InnerJudged;
 use row::Fault;
 
 // The page numbers of a climb, the leaf's first.
-#[derive(Drop)]
+#[derive(Clone, Copy)]
 pub struct Path {
     pub pages: [u32; 4],
     pub len: usize,
 }
 
 // A climb that came to the root, and its path; or the fault that ended it.
-#[derive(Drop)]
+#[derive(Clone, Copy)]
 pub struct Climbed {
     pub ok: bool,
     pub fault: Fault,
@@ -23,7 +23,7 @@ pub struct Climbed {
 }
 
 // The page above, or what is wrong with it.
-#[derive(Drop)]
+#[derive(Clone, Copy)]
 pub enum Above {
     Page(u32),
     Bad(Fault),

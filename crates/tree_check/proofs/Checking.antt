@@ -1,6 +1,6 @@
 -- The ways out of the check of a tree, one law each: a leaf, an internal page, a subtree, the tree. Assumes nothing.
 use mathlib.Core.Path.{◌≡◌, refl, sym, ap, ◌∙◌}
-use mathlib.Core.Bool.{Bool, true, false, ◌&&◌, ◌||◌, and_false, or-false}
+use mathlib.Core.Bool.{Bool, true, false, ◌&&◌, ◌||◌, and-false, or-false}
 use mathlib.Core.List.{List}
 use Prim.Native.Nat.{ℕ, zero, suc, ◌+◌, ◌-◌, ◌≤◌, ◌<◌}
 use native.Mathlib.Omega.{arith}
@@ -33,7 +33,7 @@ module _ (lo hi k : ℕ) where
 
   within_high : hi < k → false ≡ within lo hi k
   unfolding within
-  within_high h = rw (lt-leb k hi h, and_false (leb lo k))
+  within_high h = rw (lt-leb k hi h, and-false (leb lo k))
 
 module _ (lo hi : ℕ) (pg : List ℕ) where
   -- keys that never fall: the first and the last tell for all
@@ -58,7 +58,7 @@ module _ (lo hi : ℕ) (pg : List ℕ) where
   all_out (suc n) zero i j e l w =
       let z : j ≡ i = omega arith in
       rw (sym (rw z at w))
-  all_out (suc n) (suc m) i j e l w = rw (all_out n m (i + 1) j (omega arith) (omega arith) w, and_false (within lo hi (key_at pg i)))
+  all_out (suc n) (suc m) i j e l w = rw (all_out n m (i + 1) j (omega arith) (omega arith) w, and-false (within lo hi (key_at pg i)))
 
 -- ---- a leaf
 

@@ -1,7 +1,7 @@
 -- The walk that judges a tree from its last leaf to its first says yes exactly where the tree is well-formed. Assumes
 -- nothing.
 use mathlib.Core.Path.{◌≡◌, refl, sym, ap, ◌∙◌}
-use mathlib.Core.Bool.{Bool, true, false, not, ◌&&◌, and_assoc, and-true, and_false, and_comm}
+use mathlib.Core.Bool.{Bool, true, false, not, ◌&&◌, and_assoc, and-true, and-false, and_comm}
 use mathlib.Core.List.{List, [], ◌∷◌, ◌++◌, append-nil, append_assoc}
 use Prim.Native.Nat.{ℕ, zero, suc, ◌+◌, ◌<◌}
 use native.Mathlib.Nat.{zero-add, add-zero}
@@ -103,9 +103,9 @@ pick_picks true false u v = refl
 pick_picks false z u v = refl
 
 and_order : (b a y x z : Bool) → ((b && x) && (z && (a && y))) ≡ ((a && b) && (y && (z && x)))
-and_order false a y x z = rw (and_false a)
-and_order true false y x z = rw (and_false z) (and_false x)
-and_order true true false x z = rw (and_false z) (and_false x)
+and_order false a y x z = rw (and-false a)
+and_order true false y x z = rw (and-false z) (and-false x)
+and_order true true false x z = rw (and-false z) (and-false x)
 and_order true true true x z = rw (and-true z) (and_comm x z)
 
 leaves_some : (k : ℕ) (s : List ℕ) (p : ℕ) → 0 < length (leaves_of s k p)

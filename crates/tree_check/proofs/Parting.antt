@@ -1,7 +1,7 @@
 -- The links between the leaves keep the pages of a sound tree apart: a leaf is as many links from the end as leaves stand
 -- after it, a page as many steps from its first leaf as levels are below it. Assumes nothing.
 use mathlib.Core.Path.{◌≡◌, refl, sym, ap, ◌∙◌, subst}
-use mathlib.Core.Bool.{Bool, true, false, not, ◌&&◌, ◌||◌, or_true, false≢true}
+use mathlib.Core.Bool.{Bool, true, false, not, ◌&&◌, ◌||◌, or-true, false≢true}
 use mathlib.Core.List.{List, [], ◌∷◌, ◌++◌}
 use mathlib.Core.Logic.{◌⊎◌, inl, inr, ⊎_elim}
 use Prim.Native.Nat.{ℕ, zero, suc, ◌+◌, ◌≤◌, ◌<◌}
@@ -45,7 +45,7 @@ mem-here x ys = rw (eq-eqb x x refl)
 
 mem-there : (x y : ℕ) (ys : List ℕ) → mem x ys ≡ true → mem x (y ∷ ys) ≡ true
 unfolding mem
-mem-there x y ys e = rw e (or_true (eqb y x))
+mem-there x y ys e = rw e (or-true (eqb y x))
 
 mem-left : (x : ℕ) (a b : List ℕ) → mem x a ≡ true → mem x (a ++ b) ≡ true
 mem-left x [] b e = absurd (mem-none x e)

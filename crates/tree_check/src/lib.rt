@@ -1,6 +1,8 @@
 // Whether the tree is well-formed (document 01, section 3). A subtree is judged by the same function with one level less
 // and its key bounds. It goes from the last child to the first, with the next link that each leaf must have, so that a
 // page met again fails at once and no table of visited pages is needed.
+#![tactic(auto)]
+
 ghost use Rattle.std.specs.Prelude.{◌≡◌, ◌+◌, ◌*◌, ◌≤◌, ◌<◌, length};
 ghost use Rattle.tree_check.specs.Check.{within, cells_within, sound_leaf, is_well_formed};
 ghost use Rattle.tree_check.specs.Steps.Check.{inner_sound, check_of};
@@ -11,14 +13,14 @@ use inner::InnerJudged;
 pub const MAX_RANK: u32 = 4294967295;
 
 // The first leaf of a subtree that is as it must be.
-#[derive(Drop)]
+#[derive(Clone, Copy)]
 pub enum Verdict {
     Ill,
     First(u32),
 }
 
 // The number of keys of an internal page that is as it must be.
-#[derive(Drop)]
+#[derive(Clone, Copy)]
 pub enum InnerSound {
     Ill,
     Ok(usize),

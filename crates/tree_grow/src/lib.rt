@@ -1,5 +1,7 @@
 // What happens above a page that was divided (document 01, section 5; btree.rs, insert_in_parent, split_internal and
 // pin_root). The pages above come from the climb and are never read from the links again.
+#![tactic(auto)]
+
 pub mod plan;
 
 ghost use Rattle.std.specs.Prelude.{◌≡◌, ◌+◌, ◌*◌, ◌≤◌, ◌<◌};

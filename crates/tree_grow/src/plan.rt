@@ -11,21 +11,21 @@ use row::Fault;
 use tree::climb::Path;
 
 // How many pages divide, and whether the root grows.
-#[derive(Drop)]
+#[derive(Clone, Copy)]
 pub struct Division {
     pub full: usize,
     pub grows: bool,
 }
 
 // Every child is in use; or the fault of one that is not.
-#[derive(Drop)]
+#[derive(Clone, Copy)]
 pub enum Links {
     InUse,
     Bad(Fault),
 }
 
 // What a division leads to above it; or the fault of a child that is not in use.
-#[derive(Drop)]
+#[derive(Clone, Copy)]
 pub enum Plan {
     Ok(Division),
     Bad(Fault),

@@ -1,5 +1,7 @@
 // A new version put into the tree (document 01, sections 3 and 5; btree.rs, insert_row_version_into_page and split_leaf):
 // its spot, what writing its leaf would take, told before any store, and the stores.
+#![tactic(auto)]
+
 pub mod ready;
 
 ghost use Rattle.std.specs.Prelude.{◌≡◌, true, ◌+◌, ◌-◌, ◌*◌, ◌/◌, ◌≤◌, ◌<◌, length};
@@ -24,7 +26,7 @@ use tree::{Descent, Route};
 use tree_room::{LeafPlan, Planned};
 
 // A leaf, the place of a new cell in it, and where its cells end.
-#[derive(Drop)]
+#[derive(Clone, Copy)]
 pub struct Spot {
     pub leaf: u32,
     pub place: Place,
@@ -32,7 +34,7 @@ pub struct Spot {
 }
 
 // The spot of a new version, or the first fault on the way to it.
-#[derive(Drop)]
+#[derive(Clone, Copy)]
 pub enum Spotted {
     Ok(Spot),
     Bad(Fault),

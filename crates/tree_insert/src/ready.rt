@@ -23,7 +23,7 @@ use tree_room::Planned;
 
 // Where it is ok, a new version can be stored at the spot by that plan; otherwise the number of the refusal, and the fault
 // behind a BadTree.
-#[derive(Drop)]
+#[derive(Clone, Copy)]
 pub struct Ready {
     pub ok: bool,
     pub number: u8,

@@ -1,5 +1,7 @@
 // What writing a leaf would take, told on the unchanged pool (document 01, sections 3, 5 and 6): the climb; where the leaf
 // would be overfull, the plan above it; and the room refusals.
+#![tactic(auto)]
+
 ghost use Rattle.std.specs.Prelude.{◌≡◌, ◌*◌, ◌≤◌, ◌<◌, length};
 ghost use Rattle.tree_room.specs.Room.{fitting, planned, unplanned, leaf_plan, room_of};
 
@@ -11,7 +13,7 @@ use tree::climb::Path;
 use tree_grow::plan::{Division, Plan};
 
 // The path above a leaf that is to be written; where it would be overfull, its cut and what follows above.
-#[derive(Drop)]
+#[derive(Clone, Copy)]
 pub struct Planned {
     pub path: Path,
     pub over: bool,
@@ -20,7 +22,7 @@ pub struct Planned {
 }
 
 // A plan, where it is ok; otherwise the fault that leaves none.
-#[derive(Drop)]
+#[derive(Clone, Copy)]
 pub struct LeafPlan {
     pub ok: bool,
     pub fault: Fault,

@@ -1,5 +1,7 @@
 // A version stamped in the tree (document 01, sections 3 and 5; btree.rs, mark_deleted_visible): what its leaf has beside
 // it, what writing that leaf would take, told before any store, and the stores.
+#![tactic(auto)]
+
 pub mod ready;
 
 ghost use Rattle.std.specs.Prelude.{◌≡◌, true, ◌+◌, ◌-◌, ◌*◌, ◌/◌, ◌≤◌, ◌<◌, length};
@@ -23,14 +25,14 @@ use row::{Cell, Stamp};
 use tree_room::{LeafPlan, Planned};
 
 // How many cells stand before a cell, and where all of them end.
-#[derive(Drop)]
+#[derive(Clone, Copy)]
 pub struct Beside {
     pub before: usize,
     pub end: usize,
 }
 
 // The cell that is to be stamped, in its leaf.
-#[derive(Drop)]
+#[derive(Clone, Copy)]
 pub struct Target {
     pub leaf: u32,
     pub cell: Cell,

@@ -18,7 +18,7 @@ use tree_room::Planned;
 
 // Where it is ok, the target can be stamped by that plan; otherwise the number of the refusal, and the fault behind a
 // BadTree.
-#[derive(Drop)]
+#[derive(Clone, Copy)]
 pub struct Marking {
     pub ok: bool,
     pub number: u8,
