@@ -14,15 +14,15 @@ overflow_mul-n c = omega (arith, list_few _ _ _ c.args.out.now c.requires.1 8192
 
 pub returns-then-out-n : goal.returns-then-out-n
 returns-then-out-n c =
-    ap (λ (x : List ℕ). written Listing.Short x) (lent_none c.walk.new.1.1.0 c.args.out.now (search rules)) ∙ list_short _ _ _ _ c.requires.1 8192 refl _ _ _ _ c.walk.ensures _ c.in-Ok.is (search rules)
+    ap (λ (x : List ℕ). written Listing.Short x) (lent_none c.walk.new.out c.args.out.now (search rules)) ∙ list_short _ _ _ _ c.requires.1 8192 refl _ _ _ _ c.walk.ensures _ c.in-Ok.is (search rules)
 
 pub overflow_mul-result : goal.overflow_mul-result
 overflow_mul-result c = omega (arith, list_few _ _ _ c.args.out.now c.requires.1 8192 refl _ _ _ _ c.walk.ensures _ c.in-Ok.is)
 
 pub returns-in-Bad : goal.returns-in-Bad
 returns-in-Bad c =
-    ap (λ (x : List ℕ). written (Listing.Bad c.in-Bad.f) x) (lent_none c.walk.new.1.1.0 c.args.out.now (search rules)) ∙ list_bad _ _ _ _ c.requires.1 8192 refl _ _ _ _ c.walk.ensures c.in-Bad.is
+    ap (λ (x : List ℕ). written (Listing.Bad c.in-Bad.f) x) (lent_none c.walk.new.out c.args.out.now (search rules)) ∙ list_bad _ _ _ _ c.requires.1 8192 refl _ _ _ _ c.walk.ensures c.in-Bad.is
 
 pub returns-else-out-n : goal.returns-else-out-n
 returns-else-out-n c =
-    list_done _ _ _ _ c.requires.1 8192 refl _ _ _ _ c.walk.ensures _ c.in-Ok.is c.walk-in-Ok.new.1.0 c.walk-in-Ok.new.1.1.0 c.walk-in-Ok.result (c.zero_fill.ensures ∙ zeros_again 8192 c.walk.new.1.0 (search rules)) (lent_none c.walk.new.1.1.0 c.args.out.now (search rules)) c.walk-in-Ok.ensures (search rules)
+    list_done _ _ _ _ c.requires.1 8192 refl _ _ _ _ c.walk.ensures _ c.in-Ok.is c.walk-in-Ok.new.seen c.walk-in-Ok.new.out c.walk-in-Ok.result (c.zero_fill.ensures ∙ zeros_again 8192 c.walk.new.seen (search rules)) (lent_none c.walk.new.out c.args.out.now (search rules)) c.walk-in-Ok.ensures (search rules)

@@ -12,35 +12,35 @@ returns-then-used-p c = measured_unused _ _ _ _ _ _ _ c.loop-left.invariant (sea
 
 pub returns-in-Bad : goal.returns-in-Bad
 returns-in-Bad c =
-    measured_bad _ _ _ _ _ _ _ c.loop-left.invariant (search rules) (search rules) (λ i. (c.shared_slice_known-1.given i).fits) c.page_of-pg.ensures.0 c.page_of-pg.ensures.1 c.run_of.ensures c.in-Bad.is
+    measured_bad _ _ _ _ _ _ _ c.loop-left.invariant (search rules) (search rules) (λ i. (c.type_inv.pool i).fits) c.page_of-pg.ensures.0 c.page_of-pg.ensures.1 c.run_of.ensures c.in-Bad.is
 
 pub overflow_sub-size : goal.overflow_sub-size
 overflow_sub-size c =
-    let m = measured_run _ _ _ _ _ _ _ c.loop-left.invariant (search rules) (search rules) (λ i. (c.shared_slice_known-1.given i).fits) c.page_of-pg.ensures.0 c.page_of-pg.ensures.1 c.run_of.ensures c.in-Ok.is in omega arith
+    let m = measured_run _ _ _ _ _ _ _ c.loop-left.invariant (search rules) (search rules) (λ i. (c.type_inv.pool i).fits) c.page_of-pg.ensures.0 c.page_of-pg.ensures.1 c.run_of.ensures c.in-Ok.is in omega arith
 
 pub overflow_add-size : goal.overflow_add-size
 overflow_add-size c =
-    let m = measured_run _ _ _ _ _ _ _ c.loop-left.invariant (search rules) (search rules) (λ i. (c.shared_slice_known-1.given i).fits) c.page_of-pg.ensures.0 c.page_of-pg.ensures.1 c.run_of.ensures c.in-Ok.is in omega arith
+    let m = measured_run _ _ _ _ _ _ _ c.loop-left.invariant (search rules) (search rules) (λ i. (c.type_inv.pool i).fits) c.page_of-pg.ensures.0 c.page_of-pg.ensures.1 c.run_of.ensures c.in-Ok.is in omega arith
 
 pub overflow_mul-size : goal.overflow_mul-size
 overflow_mul-size c =
-    let m = measured_run _ _ _ _ _ _ _ c.loop-left.invariant (search rules) (search rules) (λ i. (c.shared_slice_known-1.given i).fits) c.page_of-pg.ensures.0 c.page_of-pg.ensures.1 c.run_of.ensures c.in-Ok.is in omega arith
+    let m = measured_run _ _ _ _ _ _ _ c.loop-left.invariant (search rules) (search rules) (λ i. (c.type_inv.pool i).fits) c.page_of-pg.ensures.0 c.page_of-pg.ensures.1 c.run_of.ensures c.in-Ok.is in omega arith
 
 pub overflow_add-size-in-Ok : goal.overflow_add-size-in-Ok
 overflow_add-size-in-Ok c =
-    let m = measured_run _ _ _ _ _ _ _ c.loop-left.invariant (search rules) (search rules) (λ i. (c.shared_slice_known-1.given i).fits) c.page_of-pg.ensures.0 c.page_of-pg.ensures.1 c.run_of.ensures c.in-Ok.is in omega arith
+    let m = measured_run _ _ _ _ _ _ _ c.loop-left.invariant (search rules) (search rules) (λ i. (c.type_inv.pool i).fits) c.page_of-pg.ensures.0 c.page_of-pg.ensures.1 c.run_of.ensures c.in-Ok.is in omega arith
 
 pub returns-then-larger : goal.returns-then-larger
 returns-then-larger c =
-    measured_last _ _ _ _ _ _ _ c.loop-left.invariant (search rules) (search rules) (λ i. (c.shared_slice_known-1.given i).fits) c.page_of-pg.ensures.0 c.page_of-pg.ensures.1 c.run_of.ensures c.in-Ok.is (search rules)
+    measured_last _ _ _ _ _ _ _ c.loop-left.invariant (search rules) (search rules) (λ i. (c.type_inv.pool i).fits) c.page_of-pg.ensures.0 c.page_of-pg.ensures.1 c.run_of.ensures c.in-Ok.is (search rules)
 
 pub returns-then-next-eq0 : goal.returns-then-next-eq0
 returns-then-next-eq0 c =
-    measured_end _ _ _ _ _ _ _ c.loop-left.invariant (search rules) (search rules) (λ i. (c.shared_slice_known-1.given i).fits) c.page_of-pg.ensures.0 c.page_of-pg.ensures.1 c.run_of.ensures c.in-Ok.is (search rules) c.get_next_leaf-next.ensures (search rules)
+    measured_end _ _ _ _ _ _ _ c.loop-left.invariant (search rules) (search rules) (λ i. (c.type_inv.pool i).fits) c.page_of-pg.ensures.0 c.page_of-pg.ensures.1 c.run_of.ensures c.in-Ok.is (search rules) c.get_next_leaf-next.ensures (search rules)
 
 pub loop-left-preserved : goal.loop-left-preserved
 loop-left-preserved c =
-    measured_on _ _ _ _ _ _ _ c.loop-left.invariant (search rules) (search rules) (λ i. (c.shared_slice_known-1.given i).fits) c.page_of-pg.ensures.0 c.page_of-pg.ensures.1 c.run_of.ensures c.in-Ok.is (search rules) c.get_next_leaf-next.ensures (search rules)
+    measured_on _ _ _ _ _ _ _ c.loop-left.invariant (search rules) (search rules) (λ i. (c.type_inv.pool i).fits) c.page_of-pg.ensures.0 c.page_of-pg.ensures.1 c.run_of.ensures c.in-Ok.is (search rules) c.get_next_leaf-next.ensures (search rules)
 
 pub returns : goal.returns
 returns c = measured_again _ _ _ _ _ _ _ c.loop-left.invariant (search rules) c.structural_fault-2.ensures

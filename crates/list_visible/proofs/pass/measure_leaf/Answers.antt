@@ -2,8 +2,8 @@
 use Rattle.list_visible.proofs.Going.{next-turn}
 use Rattle.list_visible.proofs.Measuring.{turn-seen, turn_unseen, measuring_start, measuring_end, measuring_turn}
 use native.Mathlib.Omega.{arith}
-use mathlib.Core.Logic.{⊎_elim}
 use Rattle.list_visible.proofs.pass.measure_leaf.Goals as goal
+use Rattle.list_visible.proofs.pass.measure_leaf.Goals.{then-visible_at, else-visible_at}
 
 pub page_of-pg-requires : goal.page_of-pg-requires
 page_of-pg-requires c = omega (arith, c.requires.0, c.requires.1)
@@ -26,7 +26,7 @@ step-here-requires c = (c.loop-left.invariant.whole, omega (arith, c.loop-left.i
 
 pub loop-left-preserved : goal.loop-left-preserved
 loop-left-preserved c =
-    let t = next-turn _ _ _ _ c.loop-left-test.true c.loop-left.invariant.going in measuring_turn _ _ _ c.loop-left.invariant t c.page_of-pg.ensures.1 c.next_at-end.ensures (⊎_elim (λ w. turn-seen _ _ _ _ t c.visible_at.ensures w.0.taken c.next_at-end.ensures w.1.ensures w.2.ensures w.3) (λ w. turn_unseen _ _ _ _ t c.visible_at.ensures w.0.left w.1) c.if-visible_at.branch)
+    let t = next-turn _ _ _ _ c.loop-left-test.true c.loop-left.invariant.going in measuring_turn _ _ _ c.loop-left.invariant t c.page_of-pg.ensures.1 c.next_at-end.ensures (elim c.if-visible_at.branch [ then-visible_at w ↦ turn-seen _ _ _ _ t c.visible_at.ensures w.if-visible_at.true c.next_at-end.ensures w.chosen_at.ensures w.step-here.ensures w.here-is | else-visible_at w ↦ turn_unseen _ _ _ _ t c.visible_at.ensures w.if-visible_at.false w.here-is ])
 
 pub returns : goal.returns
 returns c = measuring_end _ _ _ c.loop-left.invariant c.loop-left-test.false

@@ -2,8 +2,8 @@
 use Rattle.list_visible.proofs.Going.{next-turn}
 use Rattle.list_visible.proofs.Writing.{turn-pushed, turn-passed, writing_start, writing_end, writing_fits, writing_turn}
 use native.Mathlib.Omega.{arith}
-use mathlib.Core.Logic.{⊎_elim}
 use Rattle.list_visible.proofs.pass.write_leaf.Goals as goal
+use Rattle.list_visible.proofs.pass.write_leaf.Goals.{then-visible_at, else-visible_at}
 
 pub page_of-pg-requires : goal.page_of-pg-requires
 page_of-pg-requires c = omega (arith, c.requires.0, c.requires.1)
@@ -27,7 +27,7 @@ push-here-requires c =
 
 pub loop-left-preserved : goal.loop-left-preserved
 loop-left-preserved c =
-    let t = next-turn _ _ _ _ c.loop-left-test.true c.loop-left.invariant.going in writing_turn _ _ _ _ c.loop-left.invariant t _ c.requires.0 c.requires.1 c.page_of-pg.ensures.0 c.page_of-pg.ensures.1 c.next_at-end.ensures (⊎_elim (λ w. turn-pushed _ _ _ _ _ _ t c.visible_at.ensures w.0.taken c.next_at-end.ensures w.2.ensures w.3.ensures w.6 w.7) (λ w. turn-passed _ _ _ _ _ _ t c.visible_at.ensures w.0.left w.1 w.2) c.if-visible_at.branch)
+    let t = next-turn _ _ _ _ c.loop-left-test.true c.loop-left.invariant.going in writing_turn _ _ _ _ c.loop-left.invariant t _ c.requires.0 c.requires.1 c.page_of-pg.ensures.0 c.page_of-pg.ensures.1 c.next_at-end.ensures (elim c.if-visible_at.branch [ then-visible_at w ↦ turn-pushed _ _ _ _ _ _ t c.visible_at.ensures w.if-visible_at.true c.next_at-end.ensures w.chosen_at.ensures w.push-here.ensures w.out-is w.here-is | else-visible_at w ↦ turn-passed _ _ _ _ _ _ t c.visible_at.ensures w.if-visible_at.false w.out-is w.here-is ])
 
 pub shape_of-out : goal.shape_of-out
 shape_of-out c = c.loop-left.invariant.long
