@@ -10,23 +10,23 @@ use Rattle.leaf_divide.proofs.stamp_divide_left.Goals as goal
 
 pub part_leaf-requires : goal.part_leaf-requires
 part_leaf-requires c =
-    let w = cell_placed (page c.args.pool.now c.args.p) c.args.c.at c.args.c c.requires.1.0.0 in
+    let w = cell_placed (page c.args.pool.now c.args.p) c.args.c.at c.args.c c.requires.at_value.0 in
     search rules
 
 pub overflow_sub-c : goal.overflow_sub-c
 overflow_sub-c c =
-    let w = cell_placed (page c.args.pool.now c.args.p) c.args.c.at c.args.c c.requires.1.0.0 in
+    let w = cell_placed (page c.args.pool.now c.args.p) c.args.c.at c.args.c c.requires.at_value.0 in
     search rules
 
 pub grow_stamp-requires : goal.grow_stamp-requires
 grow_stamp-requires c =
-    let w = cell_placed (page c.args.pool.now c.args.p) c.args.c.at c.args.c c.requires.1.0.0 in
+    let w = cell_placed (page c.args.pool.now c.args.p) c.args.c.at c.args.c c.requires.at_value.0 in
     search rules
 
 pub returns : goal.returns
 returns c =
-    let w = cell_placed (page c.args.pool.now c.args.p) c.args.c.at c.args.c c.requires.1.0.0 in
+    let w = cell_placed (page c.args.pool.now c.args.p) c.args.c.at c.args.c c.requires.at_value.0 in
     let f = rw lent_page at c.grow_stamp.ensures in
     let g = rw back_page at c.link_leaves.ensures in
-    stamp-left-done _ _ _ _ _ _ c.args.c c.args.pool.now (omega arith) (omega arith) (λ i. (c.slice_known-1.given i).fits) c.requires.1.0.0 c.requires.1.0.1 (omega arith) (omega arith) (omega arith) _ _
+    stamp-left-done _ _ _ _ _ _ c.args.c c.args.pool.now (omega arith) (omega arith) (λ i. (c.slice_known-1.given i).fits) c.requires.at_value.0 c.requires.at_value.1 (omega arith) (omega arith) (omega arith) _ _
     (omega arith) (omega arith) (omega arith) (omega arith) refl c.part_leaf.ensures f g
