@@ -1,18 +1,13 @@
 -- `tree_check::cells_within` meets its contract: the walk that is left gives what the whole walk gives. Assumes nothing.
 use mathlib.Core.Path.{refl, sym, ap, ◌∙◌}
 use mathlib.Core.Bool.{Bool, true, false, ◌&&◌}
-use Prim.Native.Nat.{ℕ}
 use native.Mathlib.Omega.{arith}
-use Rattle.row.specs.declared.Cell.{Cell}
 use Rattle.tree_check.specs.Check.{within, cells_within}
 use Rattle.leaf.proofs.Finding.{loop_type, loop_bad, loop_done}
 use Rattle.leaf.proofs.Walking.{walk_stuck, walk_on, walk-done, stepped}
 use Rattle.std.proofs.Common.{rules}
+use Rattle.tree_check.proofs.cells_within.Invariants.{more}
 use Rattle.tree_check.proofs.cells_within.Goals as goal
-
--- one more cell
-abbrev more : (lo hi : ℕ) → Bool → Cell → Bool
-more lo hi ok x = ok && within lo hi x.key
 
 pub returns-then-get_node_type-ne-NODE_LEAF : goal.returns-then-get_node_type-ne-NODE_LEAF
 unfolding cells_within
