@@ -46,7 +46,7 @@ fn reads_back(s: &[u8], h: Head, body: &[u8], size: usize) -> bool
     if !same::same_cell(c, fields::cell_of(h, 0, start, body.len(), size)) {
         return false;
     }
-    check::same(&s[start..size], body)
+    &s[start..size] == body
 }
 
 // Whether the writer makes the recorded cell, which is followed by the guard, and leaves the guard as it is.
@@ -60,7 +60,7 @@ fn writes(h: Head, body: &[u8], cell: &[u8], size: usize) -> bool
     }
     let mut out = [GUARD; ROOM];
     row::write::write_cell(&mut out, h.key, h.creator, stamp, pointer, body);
-    if !check::same(&out, cell) {
+    if out.as_slice() != cell {
         return false;
     }
     reads_back(&out, h, body, size)
@@ -135,10 +135,10 @@ fn read_case(s: &[u8]) -> Outcome {
 // What the case on that line comes to.
 pub fn run(s: &[u8]) -> Outcome {
     let kind = test_text::field(s, 0);
-    if check::same(kind, b"w") {
+    if kind == b"w".as_slice() {
         return write_case(s);
     }
-    if check::same(kind, b"r") {
+    if kind == b"r".as_slice() {
         return read_case(s);
     }
     Outcome::Unreadable

@@ -50,10 +50,10 @@ fn cell(s: &[u8], at: usize) -> AnswerText {
 // cell and its fields, or bad KIND
 pub fn answer(s: &[u8], at: usize) -> AnswerText {
     let word = test_text::field(s, 0);
-    if check::same(word, b"cell") {
+    if word == b"cell".as_slice() {
         return cell(test_text::rest(s, 1), at);
     }
-    if !check::same(word, b"bad") {
+    if word != b"bad".as_slice() {
         return AnswerText::Bad;
     }
     let NumberText::Got(kind) = test_text::number(test_text::rest(s, 1), 255) else {

@@ -1,9 +1,11 @@
 // The lines that the program writes, each put together in a buffer and written at once.
 // A function `put_..` puts something at an offset and answers the offset past it.
-ghost use Rattle.std.specs.Prelude.{◌≡◌, ◌+◌, ◌*◌, ◌≤◌, length};
+ghost use Rattle.std.specs.Prelude.{◌≡◌, ◌+◌, ◌*◌, ◌<◌, ◌≤◌, length};
 
 use crate::case::Outcome;
 use row::{Pointer, Stamp};
+use std::io;
+use std::io::Write;
 
 // Longer than any line: the longest is that of the record, of 62 characters.
 const ROOM: usize = 64;
@@ -20,9 +22,14 @@ fn put_number(out: &mut [u8], at: usize, n: u64) -> usize
     requires { at + 20 ≤ length out.old }
     ensures { result ≤ at + 20 }
 {
-    let mut digits = [0u8; 20];
-    let k = io::decimal(n, &mut digits);
-    put_text(out, at, &digits[0..k])
+    let mut digits = itoa::Buffer::new();
+    put_text(out, at, digits.format(n).as_bytes())
+}
+
+fn hex_digit(d: u8) -> u8
+    requires { d < 16 }
+{
+    if d < 10 { b'0' + d } else { b'a' + (d - 10) }
 }
 
 fn put_hex(out: &mut [u8], at: usize, s: &[u8]) -> usize
@@ -32,9 +39,9 @@ fn put_hex(out: &mut [u8], at: usize, s: &[u8]) -> usize
     let mut e = at;
     let mut i = 0;
     while i < s.len() {
-        let mut pair = [0u8; 16];
-        io::hex(store::get8(s, i) as u64, 2, &mut pair);
-        e = put_text(out, e, &pair[0..2]);
+        let x = store::get8(s, i);
+        let pair = [hex_digit(x / 16), hex_digit(x % 16)];
+        e = put_text(out, e, &pair);
         i += 1;
     }
     e
@@ -58,18 +65,18 @@ fn put_outcome(out: &mut [u8], at: usize, o: Outcome) -> usize
     }
 }
 
-fn write_first(out: &[u8], n: usize)
+fn write_first(rt: &impl Print, out: &[u8], n: usize) -> io::Result<()>
     requires { n ≤ length out.now }
 {
-    io::write_all(libc::STDOUT_FILENO, &out[0..n]);
+    io::writer(rt).write_all(&out[0..n])
 }
 
 // Writes the line of case n.
-pub fn outcome(n: u64, o: Outcome) {
+pub fn outcome(rt: &impl Print, n: u64, o: Outcome) -> io::Result<()> {
     let mut out = [0u8; ROOM];
     let a = put_number(&mut out, 0, n);
     let e = put_outcome(&mut out, a, o);
-    write_first(&out, e);
+    write_first(rt, &out, e)
 }
 
 // Key 7, creator 5, live, data 00 00: the length of what follows, the kind of record, and the cell.
@@ -85,22 +92,22 @@ fn fill_record(out: &mut [u8])
 }
 
 // Writes the line with the listing record.
-pub fn record() {
+pub fn record(rt: &impl Print) -> io::Result<()> {
     let mut r = [0u8; 27];
     fill_record(&mut r);
     let mut out = [0u8; ROOM];
     let a = put_text(&mut out, 0, b"record ");
     let b = put_hex(&mut out, a, &r);
     let e = put_text(&mut out, b, b"\n");
-    write_first(&out, e);
+    write_first(rt, &out, e)
 }
 
 // Writes the last line: how many cases there are, and how many differ.
-pub fn counts(cases: u64, differ: u64) {
+pub fn counts(rt: &impl Print, cases: u64, differ: u64) -> io::Result<()> {
     let mut out = [0u8; ROOM];
     let a = put_number(&mut out, 0, cases);
     let b = put_text(&mut out, a, b" cases, ");
     let c = put_number(&mut out, b, differ);
     let e = put_text(&mut out, c, b" differ\n");
-    write_first(&out, e);
+    write_first(rt, &out, e)
 }

@@ -51,7 +51,7 @@ fn pointer(s: &[u8]) -> PointerText {
     if crate::is_dash(s) {
         return PointerText::Got(Pointer::Absent);
     }
-    let e = bytes::scan::find(s, 0, s.len(), b'.');
+    let e = crate::find(s, 0, b'.');
     if e == s.len() {
         return PointerText::Bad;
     }

@@ -4,7 +4,7 @@
 
 pub mod fields;
 
-ghost use Rattle.std.specs.Prelude.{length};
+ghost use Rattle.std.specs.Prelude.{◌≡◌, ℕ, ◌<◌, ◌≤◌, ◌≢◌, length, slice_index};
 ghost use Rattle.test_text.specs.Within.{Within};
 
 // The number that a text spells, or a text that spells none.
@@ -14,12 +14,29 @@ pub enum NumberText {
     Bad,
 }
 
+// Where the first byte b stands at `from` or past it, or the length of s where there is none.
+pub fn find(s: &[u8], from: usize, b: u8) -> usize
+    requires { from ≤ length s.now }
+    ensures within { (from ≤ result) × (result ≤ length s.now) }
+    ensures before { (k : ℕ) → from ≤ k → k < result → slice_index s.now k ≢ b }
+    ensures found { result < length s.now → slice_index s.now result ≡ b }
+{
+    let mut i = from;
+    while i < s.len() {
+        if s[i] == b {
+            return i;
+        }
+        i += 1;
+    }
+    i
+}
+
 // The line from field k on, counted from 0. A line's last field is read from this, so that nothing can follow it.
 pub fn rest(s: &[u8], k: usize) -> &[u8] {
     let mut a = 0;
     let mut left = k;
     while 0 < left {
-        let e = bytes::scan::find(s, a, s.len(), b' ');
+        let e = find(s, a, b' ');
         if e == s.len() {
             return &s[e..];
         }
@@ -32,13 +49,13 @@ pub fn rest(s: &[u8], k: usize) -> &[u8] {
 // Field k of the line, counted from 0; empty where the line has fewer.
 pub fn field(s: &[u8], k: usize) -> &[u8] {
     let t = rest(s, k);
-    let e = bytes::scan::find(t, 0, t.len(), b' ');
+    let e = find(t, 0, b' ');
     &t[0..e]
 }
 
 // The mark of an absent stamp or pointer, or of no bytes.
 pub fn is_dash(s: &[u8]) -> bool {
-    check::same(s, b"-")
+    s == b"-".as_slice()
 }
 
 // 16 where c is no digit.

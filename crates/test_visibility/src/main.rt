@@ -6,10 +6,11 @@ mod case;
 mod draw;
 mod tally;
 
+use std::io;
+use std::io::Read;
 use tally::Counts;
 
-// The whole list is read at once. One that fills this is refused, since it may go on; a read that fails leaves fewer
-// answers, and the count says so.
+// The whole list is read at once. One that fills this is refused, since it may go on.
 const ROOM: usize = 262144;
 
 // The answer that c stands for, or a number that is no case's answer.
@@ -43,7 +44,7 @@ fn replay(s: &[u8], counts: &mut Counts) {
     let mut x: u32 = 1;
     let mut at = 0;
     while at < s.len() {
-        let e = bytes::scan::find(s, at, s.len(), b'\n');
+        let e = test_text::find(s, at, b'\n');
         if s[at] != b'#' {
             replay_line(&s[at..e], &mut x, counts);
         }
@@ -51,14 +52,13 @@ fn replay(s: &[u8], counts: &mut Counts) {
     }
 }
 
-fn main() {
-    let mut input = [0u8; ROOM];
-    let n = io::read_full(libc::STDIN_FILENO, &mut input);
+fn main(rt: HostRuntime) -> io::Result<()> {
+    let mut input = Vec::new(rt.alloc());
+    let n = rt.reader().take(ROOM as u64).read_to_end(&mut input)?;
     if n == ROOM {
-        io::write_all(libc::STDOUT_FILENO, b"the list does not fit\n");
-        return;
+        return println!(rt; "the list does not fit");
     }
     let mut counts = [0u64; tally::PLACES];
-    replay(&input[0..n], &mut counts);
-    tally::report(&counts);
+    replay(&input, &mut counts);
+    tally::report(&rt, &counts)
 }

@@ -2,6 +2,8 @@
 // 1 for visible and 2 more for a conflict.
 ghost use Rattle.std.specs.Prelude.{◌<◌};
 
+use std::io;
+
 // The lists of the case were not judged good.
 pub const REFUSED: usize = 4;
 
@@ -45,54 +47,55 @@ pub fn note(counts: &mut Counts, place: usize, holds: bool)
     requires { place < 14 }
 {
     if holds {
-        counts[place] = std::num::wrapping_add_u64(counts[place], 1);
+        counts[place] = counts[place].wrapping_add(1);
     }
 }
 
-fn say(n: u64, what: &[u8]) {
-    io::print_decimal(libc::STDOUT_FILENO, n);
-    io::write_all(libc::STDOUT_FILENO, what);
+fn say(rt: &impl Print, n: u64, what: &str) -> io::Result<()> {
+    print!(rt; "{n}{what}")
 }
 
-fn say_answers(counts: &Counts) {
-    say(counts[0], b" neither visible nor in conflict\n");
-    say(counts[1], b" visible\n");
-    say(counts[2], b" in conflict\n");
-    say(counts[3], b" visible and in conflict\n");
+fn say_answers(rt: &impl Print, counts: &Counts) -> io::Result<()> {
+    say(rt, counts[0], " neither visible nor in conflict\n")?;
+    say(rt, counts[1], " visible\n")?;
+    say(rt, counts[2], " in conflict\n")?;
+    say(rt, counts[3], " visible and in conflict\n")
 }
 
-fn say_ways(counts: &Counts) {
-    say(counts[ABORTED], b" creator aborted\n");
-    say(counts[UNLISTED], b" creator unlisted\n");
-    say(counts[OWN], b" creator current\n");
-    say(counts[OWN_STAMP], b" deleter current\n");
-    say(counts[SEEN], b" creator seen\n");
+fn say_ways(rt: &impl Print, counts: &Counts) -> io::Result<()> {
+    say(rt, counts[ABORTED], " creator aborted\n")?;
+    say(rt, counts[UNLISTED], " creator unlisted\n")?;
+    say(rt, counts[OWN], " creator current\n")?;
+    say(rt, counts[OWN_STAMP], " deleter current\n")?;
+    say(rt, counts[SEEN], " creator seen\n")
 }
 
-fn say_faults(counts: &Counts) {
-    say(counts[REFUSED], b" lists refused\n");
+fn say_faults(rt: &impl Print, counts: &Counts) -> io::Result<()> {
+    say(rt, counts[REFUSED], " lists refused\n")?;
     say(
+        rt,
         counts[OTHER_CLAIM],
-        b" claim tests that differ from the conflict test\n",
-    );
-    say(counts[NO_ANSWER], b" characters that are no answer\n");
+        " claim tests that differ from the conflict test\n",
+    )?;
+    say(rt, counts[NO_ANSWER], " characters that are no answer\n")
 }
 
-fn say_length(cases: u64) {
+fn say_length(rt: &impl Print, cases: u64) -> io::Result<()> {
     if cases < EXPECTED {
-        say(EXPECTED - cases, b" answers too few\n");
+        say(rt, EXPECTED - cases, " answers too few\n")?;
     }
     if EXPECTED < cases {
-        say(cases - EXPECTED, b" answers too many\n");
+        say(rt, cases - EXPECTED, " answers too many\n")?;
     }
+    Ok(())
 }
 
 // Writes all counts; the last line is how many cases there are, and how many differ.
-pub fn report(counts: &Counts) {
-    say_answers(counts);
-    say_ways(counts);
-    say_faults(counts);
-    say_length(counts[CASES]);
-    say(counts[CASES], b" cases, ");
-    say(counts[DIFFER], b" differ\n");
+pub fn report(rt: &impl Print, counts: &Counts) -> io::Result<()> {
+    say_answers(rt, counts)?;
+    say_ways(rt, counts)?;
+    say_faults(rt, counts)?;
+    say_length(rt, counts[CASES])?;
+    say(rt, counts[CASES], " cases, ")?;
+    say(rt, counts[DIFFER], " differ\n")
 }
