@@ -1,12 +1,9 @@
 -- A page of a pool of bytes holds bytes. Assumes nothing.
 use mathlib.Core.List.{List}
-use mathlib.Core.Logic.{⊎_elim}
-use Prim.Native.Nat.{ℕ, ◌+◌, ◌*◌, ◌≤◌, ◌<◌}
-use native.Mathlib.Omega.{arith}
-use lib.ListN.{length, get_or-eq_default, length-take}
+use Prim.Native.Nat.{ℕ, ◌*◌}
 use Rattle.store.specs.Le.{AreBytes}
 use Rattle.page.specs.Page.{page}
-use Rattle.store.proofs.PartLaws.{le_or_lt, get_d_part, bytes-part}
+use Rattle.store.proofs.PartLaws.{bytes-part}
 
 pub bytes-page : (p : ℕ) (s : List ℕ) → AreBytes s → AreBytes (page s p)
 unfolding page

@@ -39,5 +39,5 @@ returns c =
     let w = cell_placed (page c.args.pool.now c.args.p) c.args.c.at c.args.c c.requires.at_value.0 in
     let f = rw lent_page at c.grow_stamp.ensures in
     let g = rw back_page at c.link_leaves.ensures in
-    stamp-right-done _ _ _ _ _ _ c.args.c c.args.pool.now (omega arith) (omega arith) (λ i. (c.slice_known-1.given i).fits) c.requires.at_value.0 c.requires.at_value.1 (omega arith) (omega arith) (omega arith) _ _ _
+    stamp-right-done _ _ _ _ _ _ c.args.c c.args.pool.now (omega arith) (omega arith) (λ i. search rules) c.requires.at_value.0 c.requires.at_value.1 (omega arith) (omega arith) (omega arith) _ _ _
     (omega arith) (omega arith) (omega arith) (omega arith) refl c.part_leaf.ensures f g

@@ -11,7 +11,7 @@ use Rattle.leaf_vacuum.proofs.vacuum_leaf.Goals as goal
 
 pub loop-left-init : goal.loop-left-init
 loop-left-init c =
-    let sound : Sound c.args.pg.now c.args.e = record { bytes = λ i. (c.slice_known-1.given i).fits; whole = omega arith; judged = c.requires.4 } in
+    let sound : Sound c.args.pg.now c.args.e = record { bytes = λ i. search rules; whole = omega arith; judged = c.requires.4 } in
     rw c.requires.2
     (record { head = _; rs = _; stands = sound_stands _ _ sound }, vacuum_sweeps _ _ _ _ sound.bytes sound.whole sound.judged, omega arith, omega arith, omega arith, omega arith)
 

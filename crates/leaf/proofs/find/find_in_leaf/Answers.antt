@@ -4,7 +4,6 @@ use Rattle.leaf.proofs.Walking.{walk_stuck, walk_on, walk-done, stepped}
 use Rattle.leaf.specs.declared.find.LeafBest.{LeafBest}
 use Rattle.leaf.specs.Find.{find_leaf}
 use native.Mathlib.Omega.{arith}
-use mathlib.Core.Logic.{⊎_elim}
 use mathlib.Core.Path.{refl, sym, ◌∙◌}
 use Rattle.std.proofs.Common.{rules}
 use Rattle.leaf.proofs.find.find_in_leaf.Goals as goal
