@@ -1,6 +1,6 @@
 -- `inner_edit::adopt` meets its contract: what is left, from the pool as it is now, gives what all of it gives. Assumes nothing.
 use mathlib.Core.Path.{◌≡◌}
-use Prim.Native.Nat.{◌+◌, ◌-◌, ◌≤◌}
+use Prim.Native.Nat.{◌+◌, ◌≤◌}
 use lib.ListN.{length}
 use Rattle.inner_edit.specs.Edit.{adopted}
 use Rattle.inner_edit.specs.Steps.Edit.{AdoptSafe}
