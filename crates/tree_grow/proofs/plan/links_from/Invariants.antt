@@ -1,7 +1,7 @@
 -- `tree_grow::plan::links_from` meets its contract: what is left of the children is in use where all of them are. Assumes
 -- nothing.
 use mathlib.Core.Path.{◌≡◌}
-use Prim.Native.Nat.{◌+◌, ◌-◌, ◌≤◌}
+use Prim.Native.Nat.{◌+◌, ◌≤◌}
 use Rattle.inner.specs.Inner.{children_from}
 use Rattle.tree_grow.specs.Plan.{in_use}
 use Rattle.tree_grow.proofs.plan.links_from.Given as goal

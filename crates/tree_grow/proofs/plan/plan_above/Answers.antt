@@ -1,10 +1,9 @@
 -- `tree_grow::plan::plan_above` meets its contract: what is left of the plan, from the pages so far, gives what the whole plan
 -- gives. Assumes nothing.
 use mathlib.Core.Path.{refl, ◌∙◌}
-use Prim.Native.Nat.{◌-◌}
 use Rattle.std.proofs.Common.{rules}
 use native.Mathlib.Omega.{arith}
-use Rattle.tree_grow.proofs.Planning.{four_pages, above_none, next-is, plan_room, plan_bad, plan_on, plan_end, plan_is}
+use Rattle.tree_grow.proofs.Planning.{above_none, next-is, plan_room, plan_bad, plan_on, plan_end, plan_is}
 use Rattle.tree_grow.proofs.plan.plan_above.Goals as goal
 
 pub loop-full-init : goal.loop-full-init
