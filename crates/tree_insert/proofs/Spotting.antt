@@ -32,7 +32,7 @@ use Rattle.tree_insert.specs.declared.Spotted.{Spotted}
 use Rattle.page.proofs.PageLaws.{length-page}
 use Rattle.leaf.proofs.Bytes.{bytes-page}
 use Rattle.leaf.proofs.Rowing.{end_of}
-use Rattle.leaf.proofs.Chain.{Chain, chain-cells, judged-leaf, chain-few}
+use Rattle.leaf.proofs.Chain.{chain-cells, judged-leaf, chain-few}
 use Rattle.leaf.proofs.Placed.{PlaceSplit, place_split}
 use Rattle.leaf.proofs.Choosing.{any_page}
 

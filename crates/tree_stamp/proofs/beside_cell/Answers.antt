@@ -13,13 +13,12 @@ pub returns-then-next-eq0 : goal.returns-then-next-eq0
 returns-then-next-eq0 c = sym (count_bad _ _ _ _ c.cell_end-next.ensures _ (search rules)) ∙ c.loop-left.invariant.0
 
 pub loop-left-preserved : goal.loop-left-preserved
-loop-left-preserved c =
-    (
-      count_on _ _ _ _ c.cell_end-next.ensures _ c.loop-left-test.true c.if-next-eq0.false
+loop-left-preserved c = (
+  count_on _ _ _ _ c.cell_end-next.ensures _ c.loop-left-test.true c.if-next-eq0.false
       (elim c.if-end-at.branch [ then-end-at w ↦ count-one _ _ _ w.if-end-at.true w.before-is | else-end-at w ↦ count_none _ _ _ w.if-end-at.false w.before-is ])
       ∙ c.loop-left.invariant.0,
-      elim c.if-end-at.branch [ then-end-at w ↦ omega (arith, w.before-is) | else-end-at w ↦ omega (arith, w.before-is) ],
-    )
+  elim c.if-end-at.branch [ then-end-at w ↦ omega (arith, w.before-is) | else-end-at w ↦ omega (arith, w.before-is) ],
+)
 
 pub returns : goal.returns
 returns c = sym (count-done _ _ _ _ _ (search rules)) ∙ c.loop-left.invariant.0

@@ -16,10 +16,10 @@ pub returns-then-seen : goal.returns-then-seen
 returns-then-seen c = at_seen _ _ _ _ c.plan_insert-told.ensures _ (search rules) (search rules) c.refused.ensures
 
 pub overflow_sub-x : goal.overflow_sub-x
-overflow_sub-x c = let is = spot_is _ _ _ _ _ _ (λ i. (c.shared_slice_known-1.given i).fits) (pool-is _ _ c.requires.0).room c.requires.2 in omega (arith, is.low, is.inside)
+overflow_sub-x c = let is = spot_is _ _ _ _ _ _ (λ i. search rules) (pool-is _ _ c.requires.0).room c.requires.2 in omega (arith, is.low, is.inside)
 
 pub overflow_add-x : goal.overflow_add-x
-overflow_add-x c = let is = spot_is _ _ _ _ _ _ (λ i. (c.shared_slice_known-1.given i).fits) (pool-is _ _ c.requires.0).room c.requires.2 in omega (arith, is.within, c.requires.1)
+overflow_add-x c = let is = spot_is _ _ _ _ _ _ (λ i. search rules) (pool-is _ _ c.requires.0).room c.requires.2 in omega (arith, is.within, c.requires.1)
 
 pub refusal-requires : goal.refusal-requires
 refusal-requires c = let p = pool-is _ _ c.requires.0 in (at_few _ _ _ _ c.plan_insert-told.ensures (search rules), p.in_use, p.few)
