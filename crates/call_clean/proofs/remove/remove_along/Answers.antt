@@ -9,7 +9,7 @@ use Rattle.std.proofs.Common.{rules}
 use Rattle.call_clean.proofs.remove.remove_along.Goals as goal
 
 pub loop-left-init : goal.loop-left-init
-loop-left-init c = (refl, refl, λ i. (c.slice_known-1.given i).fits)
+loop-left-init c = (refl, refl, λ i. search rules)
 
 pub returns-then-used-p : goal.returns-then-used-p
 returns-then-used-p c = remove_unused _ _ _ _ _ (search rules) ∙ c.loop-left.invariant.1
@@ -35,7 +35,7 @@ returns-then-next-eq0 c =
 pub loop-left-preserved : goal.loop-left-preserved
 loop-left-preserved c =
     let run = run-there _ _ _ (rw lent_page at c.run_in_leaf.ensures) c.in-Ok.is in
-    (search rules, remove_on _ _ _ _ (search rules) run.judged (run_made _ _ _ c.loop-left.invariant.2 (search rules) run (rw lent_page at c.take_run.ensures)) run.last (rw lent_page at c.get_next_leaf-next.ensures) _ (search rules) (search rules) (search rules) ∙ c.loop-left.invariant.1, λ i. (c.slice_known-in-Ok-1.given i).fits)
+    (search rules, remove_on _ _ _ _ (search rules) run.judged (run_made _ _ _ c.loop-left.invariant.2 (search rules) run (rw lent_page at c.take_run.ensures)) run.last (rw lent_page at c.get_next_leaf-next.ensures) _ (search rules) (search rules) (search rules) ∙ c.loop-left.invariant.1, λ i. search rules)
 
 pub returns : goal.returns
 returns c = remove-none _ _ _ _ _ (search rules) ∙ c.loop-left.invariant.1

@@ -30,11 +30,10 @@ returns-then-next-eq0 c =
     vacuum-end _ _ _ _ _ _ (search rules) (rw lent_page at c.judge_leaf.ensures) c.in-Ok.is w.0 (page_made _ _ w.1) (rw lent_page at c.get_next_leaf-next.ensures) _ (search rules) (search rules) ∙ c.loop-left.invariant.2
 
 pub loop-left-preserved : goal.loop-left-preserved
-loop-left-preserved c =
-    (
+loop-left-preserved c = (
   search rules,
   let few = dropped-few _ _ _ (search rules) c.vacuum_leaf-told.ensures.0 in omega arith,
-      let w = rw lent_page at c.vacuum_leaf-told.ensures in
+  let w = rw lent_page at c.vacuum_leaf-told.ensures in
       vacuum_on _ _ _ _ _ _ (search rules) (rw lent_page at c.judge_leaf.ensures) c.in-Ok.is w.0 (page_made _ _ w.1) (rw lent_page at c.get_next_leaf-next.ensures) _ (search rules) (search rules) ∙ c.loop-left.invariant.2,
 )
 
