@@ -4,8 +4,7 @@ use mathlib.Core.List.{List}
 use mathlib.Core.Logic.{⊎_elim}
 use Prim.Native.Nat.{ℕ, ◌+◌, ◌-◌, ◌*◌, ◌/◌, ◌%◌, ◌≤◌, ◌<◌}
 use native.Mathlib.Omega.{arith}
-use lib.ListN.{length, get_or, take, drop, length-take, length-replicate}
-use lib.Seq.{ext_get_or}
+use lib.ListN.{length, get_or, drop, length-take, length-replicate}
 use borrow.Rule.Slice.PartMut.{mid_of, put_mid}
 use Rattle.store.specs.Le.{le_at, put_at}
 use Rattle.store.specs.Part.{part, put, zeros}

@@ -1,6 +1,5 @@
 -- `inner::never_falls` meets its contract: the flag and what is left say what the whole says. Assumes nothing.
 use mathlib.Core.Path.{sym, ◌∙◌}
-use Prim.Native.Nat.{◌-◌}
 use native.Mathlib.Nat.{sub-zero}
 use native.Mathlib.Omega.{arith}
 use Rattle.inner.proofs.Routing.{falls-turn, falls-end}

@@ -2,7 +2,6 @@
 -- Assumes nothing.
 use mathlib.Core.Path.{refl, sym, ap, ◌∙◌}
 use mathlib.Core.Bool.{◌&&◌, and-true}
-use Prim.Native.Nat.{◌-◌}
 use native.Mathlib.Omega.{arith}
 use Rattle.mvcc.proofs.Laws.{states-turn, states-end}
 use Rattle.mvcc.proofs.lists.are_states.Goals as goal

@@ -1,6 +1,5 @@
 -- `mvcc::lists::place` meets its contract. Invariant: the number of elements below x stands between `lo` and `hi`.
 -- Assumes nothing.
-use Prim.Native.Nat.{◌-◌}
 use native.Mathlib.Omega.{arith}
 use Rattle.mvcc.proofs.Laws.{below_le, below_gt, below_length}
 use Rattle.mvcc.proofs.lists.place.Goals as goal

@@ -1,7 +1,6 @@
 -- `mvcc::lists::rises` meets its contract. Invariant: what is left, after `prev`, rises exactly if the whole list does.
 -- Assumes nothing.
 use mathlib.Core.Path.{sym, ◌∙◌}
-use Prim.Native.Nat.{◌-◌}
 use native.Mathlib.Omega.{arith}
 use Rattle.mvcc.proofs.Laws.{rising_none, rising_start, rising_step, rising-stop, rising-end}
 use Rattle.mvcc.proofs.lists.rises.Goals as goal

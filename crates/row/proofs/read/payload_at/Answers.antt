@@ -2,18 +2,8 @@
 use Rattle.row.proofs.Reading.{head-is, payload_bad, payload_past, payload_long, payload_cell, stamp-inside, pointer-inside}
 use native.Mathlib.Omega.{arith}
 use Rattle.row.proofs.read.payload_at.Goals as goal
-
 -- `row::read::payload_at` meets its contract: each way out is one law of Reading. Assumes nothing.
 use borrow.Author.Rules.{rules}
-use Rattle.row.proofs.read.payload_at.Statement.{statement}
-use Rattle.row.proofs.read.payload_at.Tie as tie
-use Rattle.row.proofs.read.payload_at.Reads as reads
-use Rattle.row.proofs.read.payload_at.Lts as lts
-use Rattle.page.proofs.key.get_rank.Reads as get-rank-reads
-use Rattle.row.proofs.read.head_at.Reads as head-at-reads
-use Rattle.row.proofs.read.pointer_in.Reads as pointer-in-reads
-use Rattle.row.proofs.read.stamp_in.Reads as stamp-in-reads
-use Rattle.store.proofs.get64.Reads as get64-reads
 
 pub returns-then-past : goal.returns-then-past
 returns-then-past c = payload_past _ _ _ (head-is _ _ _ c.head_at.ensures c.in-Got.is) (search rules)

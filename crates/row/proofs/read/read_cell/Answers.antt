@@ -2,15 +2,8 @@
 use Rattle.row.proofs.Reading.{cell_short, cell-past, cell-whole}
 use native.Mathlib.Omega.{arith}
 use Rattle.row.proofs.read.read_cell.Goals as goal
-
 -- `row::read::read_cell` meets its contract: each way out is one law of Reading. Assumes nothing.
 use borrow.Author.Rules.{rules}
-use Rattle.row.proofs.read.read_cell.Statement.{statement}
-use Rattle.row.proofs.read.read_cell.Tie as tie
-use Rattle.row.proofs.read.read_cell.Reads as reads
-use Rattle.row.proofs.read.read_cell.Lts as lts
-use Rattle.row.proofs.read.payload_at.Reads as payload-at-reads
-use Rattle.store.proofs.get32.Reads as get32-reads
 
 pub returns-then-s-lt8 : goal.returns-then-s-lt8
 returns-then-s-lt8 c = cell_short _ _ (omega arith)

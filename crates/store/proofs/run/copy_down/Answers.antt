@@ -1,7 +1,6 @@
 -- `store::run::copy_down` meets its contract. Invariant: the stores that are left, from the list as it is now, give what all of them give.
 -- Assumes nothing.
 use mathlib.Core.Path.{refl, ◌∙◌}
-use Prim.Native.Nat.{◌-◌}
 use native.Mathlib.Nat.{add-zero, sub-zero}
 use native.Mathlib.Omega.{arith}
 use lib.ListN.{length-set}

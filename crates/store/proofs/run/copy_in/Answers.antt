@@ -1,7 +1,6 @@
 -- `store::run::copy_in` meets its contract. Invariant: storing what is left of `new` gives what storing all of it gives.
 -- Assumes nothing.
 use mathlib.Core.Path.{refl, ◌∙◌}
-use Prim.Native.Nat.{◌-◌}
 use native.Mathlib.Nat.{add-zero}
 use native.Mathlib.Omega.{arith}
 use lib.ListN.{length-set, drop_of_length-le}

@@ -1,7 +1,7 @@
 -- `store::run::copy_up` meets its contract. Invariant: the stores that are left, from the list as it is now, give what all of them give.
 -- Assumes nothing.
 use mathlib.Core.Path.{◌≡◌}
-use Prim.Native.Nat.{◌-◌, ◌≤◌}
+use Prim.Native.Nat.{◌≤◌}
 use lib.ListN.{length}
 use Rattle.store.specs.Part.{put, part}
 use Rattle.store.proofs.run.copy_up.Given as goal
