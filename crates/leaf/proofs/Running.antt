@@ -165,7 +165,7 @@ module _ (key : ℕ) where
         let g : Row → Bool = λ r. f (of_key key r) in
         let m = map (row_of pg) in
         ap (λ (cs : List Cell). only g (m cs)) s.is
-        ∙ rw (map-append, map-append, filt_app g (m s.before) (m s.out ++ m s.after), filt_app g (m s.out) (m s.after), kept false s.before s.first, kept true s.out s.same, kept false s.after s.other)
+        ∙ rw (map-append (row_of pg) s.before (s.out ++ s.after), map-append (row_of pg) s.out s.after, filt_app g (m s.before) (m s.out ++ m s.after), filt_app g (m s.out) (m s.after), kept false s.before s.first, kept true s.out s.same, kept false s.after s.other)
 
 -- ---- in a judged leaf
 

@@ -159,17 +159,6 @@ bit_zero n q = bit_at_lem (zeros n) q 0 (number_zero n (q / 8)) ∙ ne_eqb (0 / 
 
 -- ---- the ways out of the readers and writers of the table
 
-pub last-power : (i : ℕ) → i < 8 → (i ≡ 0 → ⊥) → (i ≡ 1 → ⊥) → (i ≡ 2 → ⊥) → (i ≡ 3 → ⊥) → (i ≡ 4 → ⊥) → (i ≡ 5 → ⊥) → (i ≡ 6 → ⊥) → 128 ≡ power i
-last-power zero h n₀ n₁ n₂ n₃ n₄ n₅ n₆ = absurd (n₀ refl)
-last-power (suc zero) h n₀ n₁ n₂ n₃ n₄ n₅ n₆ = absurd (n₁ refl)
-last-power (suc (suc zero)) h n₀ n₁ n₂ n₃ n₄ n₅ n₆ = absurd (n₂ refl)
-last-power (suc (suc (suc zero))) h n₀ n₁ n₂ n₃ n₄ n₅ n₆ = absurd (n₃ refl)
-last-power (suc (suc (suc (suc zero)))) h n₀ n₁ n₂ n₃ n₄ n₅ n₆ = absurd (n₄ refl)
-last-power (suc (suc (suc (suc (suc zero))))) h n₀ n₁ n₂ n₃ n₄ n₅ n₆ = absurd (n₅ refl)
-last-power (suc (suc (suc (suc (suc (suc zero)))))) h n₀ n₁ n₂ n₃ n₄ n₅ n₆ = absurd (n₆ refl)
-last-power (suc (suc (suc (suc (suc (suc (suc zero))))))) h n₀ n₁ n₂ n₃ n₄ n₅ n₆ = refl
-last-power (suc (suc (suc (suc (suc (suc (suc (suc i)))))))) h n₀ n₁ n₂ n₃ n₄ n₅ n₆ = absurd (omega arith)
-
 pub power_some : {r : ℕ} (i : ℕ) → r ≡ power i → 0 < r
 power_some i e = omega (arith, power_pos i)
 

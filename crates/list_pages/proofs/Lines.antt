@@ -1,11 +1,11 @@
 -- The pages above a page, as a part of an array of four. Assumes nothing.
 use mathlib.Core.Path.{◌≡◌, refl, sym, ap, ◌∙◌}
 use mathlib.Core.Bool.{true, false}
-use mathlib.Core.List.{List, [], ◌∷◌, ◌++◌, map}
+use mathlib.Core.List.{List, [], ◌∷◌, ◌++◌}
 use Prim.Native.Nat.{ℕ, suc, ◌+◌, ◌-◌, ◌≤◌, ◌<◌}
 use native.Mathlib.Omega.{arith}
 use borrow.Author.Tests.{eq-eqb, ne_eqb}
-use lib.ListN.{length, get_or, set, length-map}
+use lib.ListN.{length, get_or, set}
 use lib.Seq.{drop-cons, set_split}
 use Rattle.store.specs.Part.{part, put}
 use Rattle.mvcc.specs.Lists.{mem}
@@ -35,10 +35,6 @@ module _ (p i n : ℕ) (s : List ℕ) where
   above_none h = rw (part_none i (n - i) s (omega arith))
 
 -- ---- a line by value
-
--- what owning the array tells of its length
-pub four : (s : List ℕ) → length (map (λ (v : ℕ). v) s) ≡ 4 → length s ≡ 4
-four s e = sym (length-map s (λ (v : ℕ). v)) ∙ e
 
 -- an element stored is one put there
 set-put : (a v : ℕ) (s : List ℕ) → a < length s → set s a v ≡ put a (v ∷ []) s

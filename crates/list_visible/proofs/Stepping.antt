@@ -18,7 +18,7 @@ use Rattle.list_visible.specs.declared.pass.Chosen.{Chosen}
 use Rattle.list_visible.specs.declared.pass.Wait.{Wait}
 use Rattle.list_visible.specs.declared.pass.Scan.{Scan}
 use Rattle.store.proofs.PartLaws.{length_part}
-use Rattle.store.proofs.PutLaws.{put_nil, length-put}
+use Rattle.store.proofs.PutLaws.{put_nil}
 use Rattle.row.proofs.Writing.{length-record}
 
 -- ---- what waits
@@ -131,9 +131,6 @@ module _ (a : ℕ) (wait : Wait) (x : Chosen) (s out : List ℕ) {r : List ℕ} 
 
     pub push-keeps : o.key ≡ x.key → r ≡ out → r ≡ put a (pushed_by wait x s) out
     push-keeps h u = u ∙ rw (e, eq-eqb o.key x.key h) (sym (put_nil a out))
-
-  pub push-length : a + length (pushed_by wait x s) ≤ length out → r ≡ put a (pushed_by wait x s) out → length r ≡ length out
-  push-length h e = ap length e ∙ length-put a (pushed_by wait x s) out h
 
 pub push_asks : (a : ℕ) (wait : Wait) (x : Chosen) (s : List ℕ) {n : ℕ} {o : Chosen} → wait ≡ Wait.For o → (o.key ≡ x.key → ⊥) → Waits wait s → a + length (pushed_by wait x s) ≤ n
     → Waits (Wait.For o) s × (a + length (wait_bytes (Wait.For o) s) ≤ n)

@@ -99,13 +99,13 @@ find-visible-refuses : (s : List ℕ) (st : State) (key : ℕ) (sn : Snapshot) (
     → Refuses (1 ∷ 3 ∷ 4 ∷ 2 ∷ 8 ∷ []) (find_visible_call s st key sn ss)
 unfolding find_visible_call mem
 find-visible-refuses s st key sn ss =
-    hidden-refuses _ (find_visible_run s st key sn ss) (looked_known _ s st key sn ss refl (λ e. refl) refl refl refl)
+    hidden-refuses _ (find_visible_run s st key sn ss) (looked_known (1 ∷ 3 ∷ 4 ∷ 2 ∷ 8 ∷ []) s st key sn ss refl (λ e. refl) refl refl refl)
 
 find-refuses : (s : List ℕ) (st : State) (key : ℕ) (cur : Current) (ss : Statuses) → Refuses (1 ∷ 4 ∷ 2 ∷ 8 ∷ []) (find_call s st key cur ss)
 unfolding find_call find_visible_call mem
 find-refuses s st key cur ss =
     hidden-refuses _ (find_visible_run s st key (plain_snapshot cur) ss)
-    (looked_known _ s st key (plain_snapshot cur) ss refl plain-active refl refl refl)
+    (looked_known (1 ∷ 4 ∷ 2 ∷ 8 ∷ []) s st key (plain_snapshot cur) ss refl plain-active refl refl refl)
 
 -- ---- conflict
 

@@ -1,14 +1,11 @@
 -- The pure part of judging entries in one pass. Invariant: the flag, that what is left rises after the entry before it,
 -- and that what is left is states, say together what the whole list says. Assumes nothing.
-use mathlib.Core.Path.{◌≡◌, refl, sym, ◌∙◌}
+use mathlib.Core.Path.{◌≡◌, refl}
 use mathlib.Core.Bool.{Bool, true, false, ◌&&◌, ◌||◌, and-true, and-false}
 use mathlib.Core.List.{List, [], ◌∷◌}
-use mathlib.Core.WellFounded.InvImage
-use mathlib.Core.WellFounded.{WellFounded}
-use Prim.Native.Nat.{ℕ, suc, ◌+◌, ◌-◌, ◌≤◌, ◌<◌, zero-le}
+use Prim.Native.Nat.{ℕ, suc, ◌+◌, ◌≤◌, ◌<◌}
 use native.Mathlib.Numerals.{add-one}
 use native.Mathlib.Omega.{arith}
-use lib.WfN.{lt-wf_rel}
 use lib.ListN.{length, get_or, drop, drop_of_length-le}
 use lib.Seq.{drop-cons}
 use lib.Dec.{ltb, leb, eqb}
@@ -30,30 +27,17 @@ after i prev l = pick (eqb i 0) (rising l) (rising_from prev l)
 abbrev pub fine : (i prev : ℕ) → Entry → Bool
 fine i prev e = (eqb i 0 || ltb prev e.tx) && (leb 1 e.state && leb e.state 3)
 
-pub record Judging (es : List Entry) : Type 0 where
-  pub ok : Bool
-  pub prev : ℕ
-  pub i : ℕ
-  pub within : i ≤ length es
-  pub left : good_statuses (statuses (txs es) (sts es)) ≡ (ok && (after i prev (drop i (txs es)) && are_states (drop i (sts es))))
-
-module _ {es : List Entry} where
-  abbrev pub Nearer : Judging es → Judging es → Type 0
-  Nearer s t = length es - s.i < length es - t.i
-
-  pub Nearer-wf : WellFounded Nearer
-  Nearer-wf = InvImage.wf (λ (s : Judging es). length es - s.i) lt-wf_rel.wf
+-- what the flag and the entries from i on say of the whole list
+abbrev pub judged : (es : List Entry) (ok : Bool) (prev i : ℕ) → Bool
+judged es ok prev i = ok && (after i prev (drop i (txs es)) && are_states (drop i (sts es)))
 
 module _ (es : List Entry) where
   pub judged-long : 65536 < length es → false ≡ good_statuses (statuses (txs es) (sts es))
   judged-long h = statuses-long (txs es) (sts es) (omega (arith, length-txs es))
 
-  pub judged_all : length es ≤ 65536 → good_statuses (statuses (txs es) (sts es)) ≡ (after 0 0 (txs es) && are_states (sts es))
+  pub judged-start : length es ≤ 65536 → good_statuses (statuses (txs es) (sts es)) ≡ judged es true 0 0
   unfolding after
-  judged_all h = statuses_both (txs es) (sts es) (omega (arith, length-txs es)) (omega (arith, length-txs es, length-sts es))
-
-  abbrev pub start : length es ≤ 65536 → Judging es
-  start h = record { ok = true; prev = 0; i = 0; within = zero-le; left = judged_all h }
+  judged-start h = statuses_both (txs es) (sts es) (omega (arith, length-txs es)) (omega (arith, length-txs es, length-sts es))
 
 -- a test of the head and the rest after it, twice, beside a flag
 regroup : (ok a b r s : Bool) → (ok && ((a && r) && (b && s))) ≡ ((ok && (a && b)) && (r && s))
@@ -79,31 +63,20 @@ states_cons : (x : ℕ) (l : List ℕ) → are_states (x ∷ l) ≡ ((leb 1 x &&
 unfolding are_states
 states_cons x l = refl
 
-module _ {es : List Entry} (s : Judging es) where
+module _ (es : List Entry) (ok : Bool) (prev i : ℕ) where
   abbrev e : Entry
-  e = get_or es s.i none
+  e = get_or es i none
 
-  pub turn : s.i < length es
-      → (s.ok && (after s.i s.prev (drop s.i (txs es)) && are_states (drop s.i (sts es))))
-      ≡ ((s.ok && fine s.i s.prev e) && (after (s.i + 1) e.tx (drop (s.i + 1) (txs es)) && are_states (drop (s.i + 1) (sts es))))
-  turn h =
-      let ht : s.i < length (txs es) = omega (arith, length-txs es) in
-      let hs : s.i < length (sts es) = omega (arith, length-sts es) in
-      rw (drop-cons (txs es) s.i 0, drop-cons (sts es) s.i 0, txs_at, sts_at, after_cons, states_cons, add-one s.i)
-      (regroup s.ok (eqb s.i 0 || ltb s.prev e.tx) (leb 1 e.state && leb e.state 3) (after (suc s.i) e.tx (drop (suc s.i) (txs es))) (are_states (drop (suc s.i) (sts es))))
+  pub judged-turn : i < length es → judged es ok prev i ≡ judged es (ok && fine i prev e) e.tx (i + 1)
+  judged-turn h =
+      let ht : i < length (txs es) = omega (arith, length-txs es) in
+      let hs : i < length (sts es) = omega (arith, length-sts es) in
+      rw (drop-cons (txs es) i 0, drop-cons (sts es) i 0, txs_at, sts_at, after_cons, states_cons, add-one i)
+      (regroup ok (eqb i 0 || ltb prev e.tx) (leb 1 e.state && leb e.state 3) (after (suc i) e.tx (drop (suc i) (txs es))) (are_states (drop (suc i) (sts es))))
 
-  abbrev pub more : s.i < length es → Judging es
-  more h = record {
-    ok = s.ok && fine s.i s.prev e;
-    prev = e.tx;
-    i = s.i + 1;
-    within = omega arith;
-    left = s.left ∙ turn h;
-  }
-
-  pub all : length es ≤ s.i → s.ok ≡ good_statuses (statuses (txs es) (sts es))
+  pub judged-end : length es ≤ i → judged es ok prev i ≡ ok
   unfolding after rising rising_from are_states
-  all h =
-      let et : drop s.i (txs es) ≡ [] = drop_of_length-le (txs es) {i = s.i} (omega (arith, length-txs es)) in
-      let es' : drop s.i (sts es) ≡ [] = drop_of_length-le (sts es) {i = s.i} (omega (arith, length-sts es)) in
-      sym (s.left ∙ rw (et, es', pick_same) (and-true s.ok))
+  judged-end h =
+      let et : drop i (txs es) ≡ [] = drop_of_length-le (txs es) {i = i} (omega (arith, length-txs es)) in
+      let es' : drop i (sts es) ≡ [] = drop_of_length-le (sts es) {i = i} (omega (arith, length-sts es)) in
+      rw (et, es', pick_same) (and-true ok)

@@ -3,9 +3,10 @@
 use mathlib.Core.Path.{◌≡◌, refl, sym, ◌∙◌}
 use mathlib.Core.Bool.{Bool, true, false}
 use mathlib.Core.List.{List, [], ◌∷◌}
-use Prim.Native.Nat.{ℕ, ◌≤◌, ◌<◌}
+use Prim.Native.Nat.{ℕ, ◌+◌, ◌≤◌, ◌<◌}
+use native.Mathlib.Nat.{zero-add}
 use native.Mathlib.Omega.{arith}
-use lib.ListN.{length, get_or, length-map, get_or-map}
+use lib.ListN.{length, get_or, set, drop, length-map, get_or-map, drop_of_length-le}
 use lib.Dec.{ltb, eqb}
 use borrow.Author.Tests.{eqb-true, eqb-false, ltb-false, lt-ltb, le-ltb, eq-eqb, ne_eqb}
 use Rattle.store.specs.Pick.{pick}
@@ -16,6 +17,7 @@ use Rattle.mvcc.specs.Snapshot.{lookup, good_statuses, statuses}
 use Rattle.mvcc_entries.specs.declared.Entry.{Entry}
 use Rattle.mvcc_entries.specs.Steps.Entries.{none}
 use Rattle.mvcc_entries.specs.Entries.{txs, sts, status_call, room_code, unpack_code, unpacked_to, Unpacked}
+use Rattle.store.proofs.PutLaws.{put-done, step_in}
 use Rattle.mvcc.proofs.Laws.{lookup_at, lookup-past, lookup-other}
 
 pub length-txs : (es : List Entry) → length (txs es) ≡ length es
@@ -48,7 +50,27 @@ module _ (es : List Entry) (t i : ℕ) (rises : rising (txs es) ≡ true) (at : 
       go true e = sym (lookup_at t (txs es) (sts es) i rises (omega (arith, length-txs es)) (omega (arith, length-sts es)) (txs_at es i ∙ eqb-true _ _ e) ∙ sts_at es i)
       go false e = lookup-other t (txs es) i rises at (sts es) (λ q. eqb-false _ _ e (sym (txs_at es i) ∙ q))
 
--- what status_in answers
+-- ---- a store into a number slice, one entry a turn: what is left to store after a turn gives what was left before it
+
+put_turn : (i : ℕ) (x s : List ℕ) → i < length x → i < length s → put (i + 1) (drop (i + 1) x) (set s i (get_or x i 0)) ≡ put i (drop i x) s
+put_turn i x s h k = simp zero-add at (step_in 0 i x s h (omega arith))
+
+module _ (es : List Entry) (i : ℕ) (s : List ℕ) where
+  pub put_txs : i < length es → i < length s → put (i + 1) (drop (i + 1) (txs es)) (set s i (get_or es i none).tx) ≡ put i (drop i (txs es)) s
+  put_txs h k = rw (← txs_at es i) (put_turn i (txs es) s (omega (arith, length-txs es)) k)
+
+  pub put_sts : i < length es → i < length s → put (i + 1) (drop (i + 1) (sts es)) (set s i (get_or es i none).state) ≡ put i (drop i (sts es)) s
+  put_sts h k = rw (← sts_at es i) (put_turn i (sts es) s (omega (arith, length-sts es)) k)
+
+-- nothing is left
+pub txs-put : (es : List Entry) (i : ℕ) {s r : List ℕ} → length es ≤ i → put i (drop i (txs es)) s ≡ r → s ≡ r
+txs-put es i h = put-done i (drop_of_length-le (txs es) (omega (arith, length-txs es)))
+
+pub sts-put : (es : List Entry) (i : ℕ) {s r : List ℕ} → length es ≤ i → put i (drop i (sts es)) s ≡ r → s ≡ r
+sts-put es i h = put-done i (drop_of_length-le (sts es) (omega (arith, length-sts es)))
+
+-- ---- what status_in answers
+
 pub status_good : (es : List Entry) (t : ℕ) → good_statuses (statuses (txs es) (sts es)) ≡ true → lookup (statuses (txs es) (sts es)) t ≡ status_call es t
 unfolding status_call
 status_good es t e = rw e

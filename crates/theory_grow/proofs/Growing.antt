@@ -90,11 +90,11 @@ enter_over g s s' l sep new low f B room few =
     let nu : new < u = b.new-below in
     let there : (x : ℕ) → x < u → There x g.pool = λ x h. omega arith in
     let here : There u g.pool = omega arith in
+    let is : view (top_over l sep new g).pool ≡ reparent u (l ∷ new ∷ []) (with_page (tied w new 0) u (inner_page 0 0 l ((sep, new) ∷ []))) =
+    view_top l sep new g (few, here) (there l lu) (there new nu) (omega arith) low (omega arith)
+    ∙ link_top w u 0 l new (inner_page 0 0 l ((sep, new) ∷ [])) b.apart (λ z. omega arith) in
     record {
-      holds = rw (
-        view_top l sep new g (few, here) (there l lu) (there new nu) (omega arith) low (omega arith),
-        link_top w u 0 l new (inner_page 0 0 l ((sep, new) ∷ [])) b.apart (λ z. omega arith),
-      ) t.rep;
+      holds = subst (λ (v : Pages). Holds v 0 0 (node u s')) (sym is) t.rep;
       root_is = top_root l sep new g (few, here) lu nu;
       used-is = top_used l sep new g (few, here) lu nu ∙ add-one u;
       bytes = topped-bytes l sep new g (few, here) (there l lu) (there new nu) (omega arith) low (omega arith) B;

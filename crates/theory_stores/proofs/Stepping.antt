@@ -376,7 +376,7 @@ first_entry (suc n) pg e r q = (ap (λ (l : List (ℕ × ℕ)). (get_or l 0 (0, 
 
 key_less : (pg : List ℕ) (i : ℕ) → key_at pg i < 4294967296
 unfolding key_at
-key_less pg i = flip_less _
+key_less _ _ = flip_less _
 
 child_less : (pg : List ℕ) (i : ℕ) → AreBytes pg → child_at pg i < 4294967296
 unfolding child_at

@@ -1,6 +1,6 @@
 -- What a store to the pool leaves of a run.
 -- Assumes nothing.
-use mathlib.Core.Path.{◌≡◌, refl, sym, ap, ◌∙◌}
+use mathlib.Core.Path.{◌≡◌, refl, sym, ap, ◌∙◌, subst}
 use mathlib.Core.List.{List, [], ◌∷◌, ◌++◌}
 use Prim.Native.Nat.{ℕ}
 use borrow.Author.Tests.{eq-eqb, ne_eqb}
@@ -78,7 +78,7 @@ adopt q w par nxt (pair a k b) d h =
     let to_b : Agree w w₁ (pages_in b) = agree_reparent q (roots a) (pages_in b) w (roots_all (λ x. Out x (pages_in b)) a apart) in
     let to_a : Agree w₁ (reparent q (roots b) w₁) (pages_in a) =
     agree_reparent q (roots b) (pages_in a) w₁ (roots_all (λ x. Out x (pages_in a)) b (out-flip (pages_in a) (pages_in b) apart)) in
-    rw reparent_app (
+    subst (λ v. Holds v q nxt (pair a k b)) (sym (reparent_app q (roots a) (roots b) w)) (
       frame w₁ (reparent q (roots b) w₁) q (first b) a to_a (adopt q w par (first b) a (nd_left (pages_in a) (pages_in b) d) h.0),
       adopt q w₁ par nxt b (nd_right (pages_in a) (pages_in b) d) (frame w w₁ par nxt b to_b h.1),
     )

@@ -1,6 +1,6 @@
 -- Root pinning: the old root's image goes to a new page q, the new top's content, two children, to the old root's page r.
 -- Assumes nothing.
-use mathlib.Core.Path.{◌≡◌, refl, sym, ap, ◌∙◌, subst}
+use mathlib.Core.Path.{◌≡◌, refl, sym, ◌∙◌, subst}
 use mathlib.Core.List.{List, [], ◌∷◌, ◌++◌}
 use Prim.Native.Nat.{ℕ, suc, ◌<◌}
 use native.Mathlib.Omega.{arith}
@@ -142,7 +142,7 @@ pin_rep w m j q nxt a k b t tb d l h =
       j,
       (agree_reparent r (roots b) (r ∷ []) v₁ z₂).0 ∙ (agree_reparent r (q ∷ []) (r ∷ []) (with_page v r x) z₁).0
           ∙ with_page-same v r x ∙ rw (renum_head q a t, renum_rest q a t),
-      (rw (renum_roots q a t) at two),
+      subst (λ (ps : List ℕ). Holds (reparent r (roots b) (reparent r ps (with_page v r x))) r nxt (pair (renum q a) k b)) (renum_roots q a t) two,
     )
 
 -- the other parts of well-formedness do not see the root's page number

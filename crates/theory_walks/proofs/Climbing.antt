@@ -33,6 +33,7 @@ use Rattle.theory_walks.proofs.Paging.{leaf_at, inner_at, children_of_lem, count
 -- a child that is held has a place
 place_in_lem : (p : ℕ) (l : List ℕ) → Memᴰ p l → child_place p l < length l
 unfolding first_where
+place_in_lem p [] m = elim m [ ]
 place_in_lem p (x ∷ l) (Memᴰ.head e) = rw (eq-eqb x p (sym e)) (omega arith)
 place_in_lem p (x ∷ l) (Memᴰ.tail m) = by_here (eqb x p) (place_in_lem p l m)
   where

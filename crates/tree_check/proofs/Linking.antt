@@ -85,8 +85,10 @@ sound_last f pg zero i lo hi = rw add-zero
 sound_last f pg (suc j) i lo hi =
     let e : i + suc j ≡ i + 1 + j = omega arith in
     let e₁ : i + suc (suc j) ≡ i + 1 + suc j = omega arith in
-    rw (e₁, e) (ap (λ (r : Bool). f (child_at pg i) lo (key_at pg i) && r) (sound_last f pg j (i + 1) (key_at pg i) hi)
-    ∙ sym (and_assoc (f (child_at pg i) lo (key_at pg i)) (sound_kids f (key_at pg i) (key_at pg (i + 1 + j)) (keys_from pg (i + 1) j) (children_from pg (i + 1) (suc j))) (f (child_at pg (i + 1 + suc j)) (key_at pg (i + 1 + j)) hi)))
+    let by : ℕ → ℕ → Bool = λ a b. sound_kids f lo (key_at pg a) (keys_from pg i (suc j)) (children_from pg i (suc (suc j))) && f (child_at pg b) (key_at pg a) hi in
+    ap (λ (r : Bool). f (child_at pg i) lo (key_at pg i) && r) (sound_last f pg j (i + 1) (key_at pg i) hi)
+    ∙ sym (and_assoc (f (child_at pg i) lo (key_at pg i)) (sound_kids f (key_at pg i) (key_at pg (i + 1 + j)) (keys_from pg (i + 1) j) (children_from pg (i + 1) (suc j))) (f (child_at pg (i + 1 + suc j)) (key_at pg (i + 1 + j)) hi))
+    ∙ sym (ap (λ (a : ℕ). by a (i + suc (suc j))) e ∙ ap (λ (b : ℕ). by (i + 1 + j) b) e₁)
 
 -- ---- what the walk says of a subtree
 

@@ -17,8 +17,8 @@ left_half-requires c =
 
 pub returns : goal.returns
 returns c =
-    let a = c.args in (
-      rw c.page_of.ensures.0 at (c.middle_key-middle.ensures a.child),
-      back_page _ _ _
-          ∙ divide-done _ _ _ _ _ _ (omega arith) (omega arith) (omega arith) (search rules) c.right_half.ensures (rw lent_page at c.left_half.ensures),
-    )
+    let a = c.args in record {
+      value = rw c.page_of.ensures.0 at (c.middle_key-middle.ensures a.child);
+      pool_after = back_page _ _ _
+          ∙ divide-done _ _ _ _ _ _ (omega arith) (omega arith) (omega arith) (search rules) c.right_half.ensures (rw lent_page at c.left_half.ensures);
+    }

@@ -8,6 +8,7 @@ use mathlib.Core.Logic.{⊎_elim}
 use mathlib.Core.Path.{refl, sym, ◌∙◌}
 use Rattle.std.proofs.Common.{rules}
 use Rattle.leaf.proofs.find.find_in_leaf.Goals as goal
+use Rattle.leaf.proofs.find.find_in_leaf.Goals.{then-k-key, else-k-key}
 
 pub returns-then-get_node_type-ne-NODE_LEAF : goal.returns-then-get_node_type-ne-NODE_LEAF
 unfolding find_leaf
@@ -29,7 +30,7 @@ creator_at-c-requires c = let h = stepped _ 0 _ _ _ c.next_end-end.ensures (sear
 
 pub loop-left-preserved : goal.loop-left-preserved
 loop-left-preserved c =
-    (omega (arith, (stepped _ 0 _ _ _ c.next_end-end.ensures (search rules)).inside), walk_on _ _ _ _ _ _ _ c.next_end-end.ensures _ (search rules) (search rules) c.get_rank-k.ensures c.creator_at-c.ensures (λ x r u v w. ⊎_elim (λ z. z.2 ∙ read_is _ _ r z.1.ensures) (λ z. z.1 ∙ newest-other _ _ _ _ _ _ (λ q. z.0.left (c.get_rank-k.ensures ∙ (u ∙ q)))) c.if-k-key.branch) ∙ c.loop-left.invariant.1)
+    (omega (arith, (stepped _ 0 _ _ _ c.next_end-end.ensures (search rules)).inside), walk_on _ _ _ _ _ _ _ c.next_end-end.ensures _ (search rules) (search rules) c.get_rank-k.ensures c.creator_at-c.ensures (λ x r u v _. elim c.if-k-key.branch [ then-k-key w ↦ w.found-is ∙ read_is _ _ r w.newest_at-found.ensures | else-k-key w ↦ w.found-is ∙ newest-other _ _ _ _ _ _ (λ q. w.if-k-key.false (c.get_rank-k.ensures ∙ (u ∙ q))) ]) ∙ c.loop-left.invariant.1)
 
 pub returns : goal.returns
 unfolding find_leaf

@@ -1,0 +1,17 @@
+-- `tree_check::check_leaf` meets its contract: each way out is one law of Checking. Assumes nothing.
+use native.Mathlib.Omega.{arith}
+use Rattle.tree_check.proofs.Checking.{leaf-used, check_unsound, check-first, check-astray}
+use Rattle.std.proofs.Common.{rules}
+use Rattle.tree_check.proofs.check_leaf.Goals as goal
+
+pub page_of-requires : goal.page_of-requires
+page_of-requires c = omega (arith, leaf-used _ _ _ _ _ _ c.sound_leaf.ensures c.if-sound_leaf.true)
+
+pub returns-then-get_next_leaf-next : goal.returns-then-get_next_leaf-next
+returns-then-get_next_leaf-next c = check-first _ _ _ _ _ _ _ c.sound_leaf.ensures c.if-sound_leaf.true c.page_of.ensures.0 c.get_next_leaf.ensures (search rules)
+
+pub returns-else-get_next_leaf-next : goal.returns-else-get_next_leaf-next
+returns-else-get_next_leaf-next c = check-astray _ _ _ _ _ _ _ c.sound_leaf.ensures c.if-sound_leaf.true c.page_of.ensures.0 c.get_next_leaf.ensures (search rules)
+
+pub returns-else-sound_leaf : goal.returns-else-sound_leaf
+returns-else-sound_leaf c = check_unsound _ _ _ _ _ _ _ c.sound_leaf.ensures c.if-sound_leaf.false

@@ -1,0 +1,22 @@
+-- `tree_stamp::cut_at` meets its contract: the sizes on both sides of the cell. Assumes nothing.
+use native.Mathlib.Omega.{arith}
+use Rattle.std.proofs.Common.{rules}
+use Rattle.tree_stamp.proofs.cut_at.Goals as goal
+
+pub overflow_sub-after : goal.overflow_sub-after
+overflow_sub-after c =
+    let n = rw c.page_of-pg.ensures.0 at c.get_cell_count.ensures in
+    omega (arith, n)
+
+pub cut_leaf-requires : goal.cut_leaf-requires
+cut_leaf-requires c =
+    let n = rw c.page_of-pg.ensures.0 at c.get_cell_count.ensures in
+    search rules
+
+pub returns : goal.returns
+returns c =
+    let pg = c.page_of-pg.ensures.0 in
+    let n = c.get_cell_count.ensures in
+    let l = c.longer_by.ensures in
+    let b = c.bytes_stamped.ensures in
+    rw pg at (rw (n, l, b) at c.cut_leaf.ensures)
