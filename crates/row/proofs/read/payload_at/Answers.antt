@@ -2,7 +2,6 @@
 use Rattle.row.proofs.Reading.{head-is, payload_bad, payload_past, payload_long, payload_cell, stamp-inside, pointer-inside}
 use native.Mathlib.Omega.{arith}
 use Rattle.row.proofs.read.payload_at.Goals as goal
-
 -- `row::read::payload_at` meets its contract: each way out is one law of Reading. Assumes nothing.
 use borrow.Author.Rules.{rules}
 use Rattle.row.proofs.read.payload_at.Statement.{statement}

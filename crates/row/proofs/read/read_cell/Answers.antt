@@ -2,7 +2,6 @@
 use Rattle.row.proofs.Reading.{cell_short, cell-past, cell-whole}
 use native.Mathlib.Omega.{arith}
 use Rattle.row.proofs.read.read_cell.Goals as goal
-
 -- `row::read::read_cell` meets its contract: each way out is one law of Reading. Assumes nothing.
 use borrow.Author.Rules.{rules}
 use Rattle.row.proofs.read.read_cell.Statement.{statement}
