@@ -3,7 +3,7 @@
 // pages in use is compared.
 #![tactic(auto)]
 
-ghost use Rattle.std.specs.Prelude.{◌≡◌, ◌<◌, ◌≤◌, IfOk, length, vec_len};
+ghost use Rattle.std.specs.Prelude.{◌≡◌, ◌<◌, ◌≤◌, IfOk, length};
 
 mod data;
 mod tally;
@@ -14,7 +14,6 @@ use mvcc::Current;
 use page::PAGE_SIZE;
 use page::pool::State;
 use std::io;
-use std::io::Read;
 use tally::Counts;
 use test_text::NumberText;
 use test_text::fields::{Head, HeadText};
@@ -315,12 +314,10 @@ fn line(
 fn replay(
     rt: &impl Print,
     s: &[u8],
-    ours: &mut [u8],
-    want: &mut [u8],
+    ours: &mut [u8; POOL],
+    want: &mut [u8; POOL],
     counts: &mut Counts,
-) -> io::Result<()>
-    requires { (length ours.old ≡ 2129920) × (length want.old ≡ 2129920) }
-{
+) -> io::Result<()> {
     let mut run = Run {
         root: 0,
         used: 0,
@@ -336,23 +333,22 @@ fn replay(
     Ok(())
 }
 
-// Reads the list and answers its length.
-fn read_list(rt: &impl Input, list: &mut Vec<u8>) -> io::Result<usize>
-    ensures { IfOk result (λ n. n ≤ vec_len list.new) }
+// Reads the list and answers its length. So long an array goes by a reference to it: lent as a slice, the prover counts it.
+fn read_list(rt: &impl Input, list: &mut [u8; ROOM]) -> io::Result<usize>
+    ensures { IfOk result (λ n. n ≤ length list.new) }
 {
-    rt.reader().take(ROOM as u64).read_to_end(list)
+    test_text::read_full(rt, list)
 }
 
 fn main(rt: HostRuntime) -> io::Result<()> {
-    let alloc = rt.alloc();
-    let mut input = Vec::new(alloc);
+    let mut input = [0u8; ROOM];
     let n = read_list(&rt, &mut input)?;
     if n == ROOM {
         return println!(rt; "the list does not fit");
     }
-    let mut ours = vec![in alloc; 0u8; POOL]?;
-    let mut want = vec![in alloc; 0u8; POOL]?;
+    let mut ours = [0u8; POOL];
+    let mut want = [0u8; POOL];
     let mut counts = [0u64; tally::PLACES];
-    replay(&rt, &input, &mut ours, &mut want, &mut counts)?;
+    replay(&rt, &input[..n], &mut ours, &mut want, &mut counts)?;
     tally::report(&rt, &counts)
 }
