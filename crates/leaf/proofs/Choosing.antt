@@ -45,12 +45,12 @@ module _ (sn : Snapshot) (st : ℕ → ℕ) (key : ℕ) where
   test_yes c t = by_key (eqb c.key key) refl t
     where
       by_key : (b : Bool) → eqb c.key key ≡ b → (b && visible sn st c.version.creator c.version.stamp) ≡ true → Seen c
-      by_key true e q = record { of_key_lem = eqb-true c.key key e; seen = q }
+      by_key true e q = record { of_the_key = eqb-true c.key key e; seen = q }
       by_key false e q = absurd (let z : ◌≡◌ {A = ℕ} 0 1 = cc in omega arith)
 
   test_no : (c : Cell) → test c ≡ false → Seen c → ⊥
   test_no c t s =
-      let k = eq-eqb c.key key s.of_key_lem in
+      let k = eq-eqb c.key key s.of_the_key in
       let v = s.seen in
       absurd (let z : ◌≡◌ {A = ℕ} 0 1 = cc in omega arith)
 

@@ -185,7 +185,7 @@ pub record RunIs (pg : List ℕ) (p key : ℕ) (run : Run) (e : ℕ) (larger : B
   pub grows : run.from ≤ run.to
   pub within : run.to ≤ e
   pub few : run.count ≤ cell_count pg
-  pub of_key_lem : only (of_key key) (rows pg) ≡ map (row_of pg) out
+  pub of_the_key : only (of_key key) (rows pg) ≡ map (row_of pg) out
   pub others : only (λ r. not (of_key key r)) (rows pg) ≡ map (row_of pg) before ++ map (row_of pg) after
 
 pub run_is : (pg : List ℕ) (p key e : ℕ) (run : Run) (larger : Bool) → run_leaf pg p key ≡ LeafRun.Ok run e larger → RunIs pg p key run e larger
@@ -226,7 +226,7 @@ run_is pg p key e run larger told = by_judged (judge_leaf pg p) refl told
           grows = grows;
           within = omega arith;
           few = omega (arith, simp length-append at (ap length s.is), there.count);
-          of_key_lem = kept_of key pg (λ b. b) s ∙ append-nil (map (row_of pg) s.out);
+          of_the_key = kept_of key pg (λ b. b) s ∙ append-nil (map (row_of pg) s.out);
           others = kept_of key pg not s;
         })
 
@@ -244,8 +244,8 @@ run_bad pg p key f told = by_judged (judge_leaf pg p) told
 pub run-is_keys : RunIsKeys
 run-is_keys pg p key e run larger told =
     let r = run_is pg p key e run larger told in
-    rw (← r.count, chain_back pg run.from r.out r.chain) (sym r.of_key_lem)
+    rw (← r.count, chain_back pg run.from r.out r.chain) (sym r.of_the_key)
 
 -- how many they are
 pub run-count : {pg : List ℕ} {p key e : ℕ} {run : Run} {larger : Bool} → RunIs pg p key run e larger → run.count ≡ length (only (of_key key) (rows pg))
-run-count {pg} r = sym (ap length r.of_key_lem ∙ (length-map r.out (row_of pg) ∙ r.count))
+run-count {pg} r = sym (ap length r.of_the_key ∙ (length-map r.out (row_of pg) ∙ r.count))

@@ -14,7 +14,7 @@ use Rattle.mvcc.specs.Snapshot.{Snapshot}
 
 -- a version of the key that is seen
 pub record Candidate (key : ℕ) (sn : Snapshot) (st : ℕ → ℕ) (c : Cell) : Type 0 where
-  pub of_key_lem : c.key ≡ key
+  pub of_the_key : c.key ≡ key
   pub seen : visible sn st c.version.creator c.version.stamp ≡ true
 
 -- whatever is a candidate among cs meets P

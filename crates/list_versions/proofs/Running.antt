@@ -84,7 +84,7 @@ module _ (which : Which) (p : ℕ) (pg : List ℕ) (B : AreBytes pg) (len : leng
     stands (Which.Key key) =
         let r = run_is pg p key e (the_run (Which.Key key) pg e) (has_larger key (cells pg)) (told_is (Which.Key key) p pg ∙ rw judged) in
         let i = chain-inside pg 12 (cells pg) (omega arith) (chain-cells pg (cell_count pg) 12) in
-        record { out = r.out; start = omega (arith, r.grows, r.within, (judged-leaf p pg e judged).end); chain = r.chain; end = r.to; count = r.count; same = r.of_key_lem }
+        record { out = r.out; start = omega (arith, r.grows, r.within, (judged-leaf p pg e judged).end); chain = r.chain; end = r.to; count = r.count; same = r.of_the_key }
 
     measures : Measures (the_run which pg e) (wanted which (rows pg))
     measures =

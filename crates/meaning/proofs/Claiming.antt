@@ -9,7 +9,7 @@ use Rattle.page.specs.declared.pool.State.{State}
 use Rattle.mvcc.specs.Lists.{mem}
 use Rattle.leaf.specs.Rows.{Row}
 use Rattle.page.specs.Pool.{Grown}
-use Rattle.call_answers.specs.Answer.{refused, ended, Ended, Outcome, nothing, Value, done}
+use Rattle.call_answers.specs.Answer.{refused, ended, Ended, Outcome, nothing, Value}
 use Rattle.call_stamp.specs.Claim.{claim_call}
 use Rattle.theory_tree.specs.Shape.{Shape, chain}
 use Rattle.meaning.specs.Trees.{TreeIn}

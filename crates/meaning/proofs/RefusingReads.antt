@@ -1,7 +1,7 @@
 -- The reading calls refuse as demand 1 has it: create, check, lookup, conflict, and the listings, of which none but a Done
 -- one changes the output. Assumes nothing.
 use mathlib.Core.Path.{◌≡◌, refl}
-use mathlib.Core.Bool.{Bool, false}
+use mathlib.Core.Bool.{false}
 use mathlib.Core.List.{List, [], ◌∷◌}
 use Prim.Native.Nat.{ℕ}
 use native.Mathlib.Omega.{arith}

@@ -174,7 +174,7 @@ module _ (g : Grown) (t : Shape) (tree : TreeIn g t) (v : Row → Bool) (key p :
   chain-new : chained ≡ stamped v key d row (chain t)
   chain-new =
       let w : (Row → Bool) = λ x. of_version key row.creator x && v x in
-      let own : w row ≡ true = rw (here.of_key_lem, eq-eqb row.creator row.creator refl, here.seen) in
+      let own : w row ≡ true = rw (here.of_the_key, eq-eqb row.creator row.creator refl, here.seen) in
       let none = none_of v key row.creator (back ++ post_c ctx) here.last in
       let there : stamped v key d row (chain t) ≡ (pre_c ctx ++ front) ++ (stamp_row d row ∷ (back ++ post_c ctx)) =
       ap (change_last w (stamp_row d)) (standing_chain v key s t p c here)

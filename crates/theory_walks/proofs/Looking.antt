@@ -97,7 +97,7 @@ pub record Standing (v : Row → Bool) (key : ℕ) (s : List ℕ) (t : Shape) (p
   pub after : List Cell
   pub cells_are : cells (page s p) ≡ before ++ (c ∷ after)
   pub rows_are : rows ≡ map (row_of (page s p)) (before ++ (c ∷ after))
-  pub of_key_lem : of_key key (row_of (page s p) c) ≡ true
+  pub of_the_key : of_key key (row_of (page s p) c) ≡ true
   pub seen : v (row_of (page s p) c) ≡ true
   pub last : All (λ (z : Row). v z ≡ false) (arrivals key c.version.creator (map (row_of (page s p)) after ++ post_c ctx))
 
@@ -193,7 +193,7 @@ module _ (sn : Snapshot) (st : ℕ → ℕ) (key : ℕ) where
     before : List Cell
     after : List Cell
     is : cs ≡ before ++ (c ∷ after)
-    of_key_lem : of_key key (row_of pg c) ≡ true
+    of_the_key : of_key key (row_of pg c) ≡ true
     seen : seen_by (row_of pg c) ≡ true
     less : Less seen_by key c.version.creator (map (row_of pg) after)
 
@@ -203,7 +203,7 @@ module _ (sn : Snapshot) (st : ℕ → ℕ) (key : ℕ) where
   first_cell : (pg : List ℕ) (d c : Cell) (cs : List Cell) → d ≡ c → test pg d ≡ true → Less seen_by key c.version.creator (map (row_of pg) cs) → InCells pg c (d ∷ cs)
   first_cell pg d c cs e t h =
       let b = and_both (of_key key (row_of pg c)) (seen_by (row_of pg c)) (rw e at t) in
-      record { before = []; after = cs; is = ap (λ (x : Cell). x ∷ cs) e; of_key_lem = b.0; seen = b.1; less = h }
+      record { before = []; after = cs; is = ap (λ (x : Cell). x ∷ cs) e; of_the_key = b.0; seen = b.1; less = h }
 
   cells_chosen : (p : ℕ) (pg : List ℕ) (cs : List Cell) (b : Best) (q : ℕ) (c : Cell) → fold_cells (newest p key sn st) b cs ≡ Best.At q c
       → Stays b q c (map (row_of pg) cs) ⊎ ((q ≡ p) × InCells pg c cs)
@@ -227,7 +227,7 @@ module _ (sn : Snapshot) (st : ℕ → ℕ) (key : ℕ) where
       by_rest (inl w) = by_test (test pg d) refl b w.0 w.1
       by_rest (inr w) =
           let i = w.1 in
-          inr (w.0, record { before = d ∷ i.before; after = i.after; is = ap (λ (l : List Cell). d ∷ l) i.is; of_key_lem = i.of_key_lem; seen = i.seen; less = i.less })
+          inr (w.0, record { before = d ∷ i.before; after = i.after; is = ap (λ (l : List Cell). d ∷ l) i.is; of_the_key = i.of_the_key; seen = i.seen; less = i.less })
 
   module _ (s : List ℕ) (used : ℕ) (t : Shape) where
     stands_here : (l : Loc) (ls : List Loc) (q : ℕ) (c : Cell) → InTree t l → AtLeaf s used l → post_c l.ctx ≡ flat (cellss ls) ++ [] → q ≡ l.page
@@ -246,7 +246,7 @@ module _ (sn : Snapshot) (st : ℕ → ℕ) (key : ℕ) where
           after = i.after;
           cells_are = i.is;
           rows_are = sym a.says.rows_are ∙ ap (map (row_of pg)) i.is;
-          of_key_lem = i.of_key_lem;
+          of_the_key = i.of_the_key;
           seen = i.seen;
           last = less_last seen_by key n (map (row_of pg) i.after ++ post_c l.ctx) back;
         })
