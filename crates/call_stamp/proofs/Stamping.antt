@@ -13,7 +13,7 @@ use Rattle.page.specs.Page.{page}
 use Rattle.page.specs.Pool.{good_pool}
 use Rattle.page.specs.declared.pool.State.{State}
 use Rattle.row.specs.declared.Cell.{Cell}
-use Rattle.mvcc.specs.Snapshot.{lookup, good_statuses, creator_of, Snapshot, Statuses, good_snapshot, statuses}
+use Rattle.mvcc.specs.Snapshot.{lookup, good_statuses, creator_of, Snapshot, Statuses, good_snapshot}
 use Rattle.leaf.specs.declared.find.Best.{Best}
 use Rattle.tree.specs.Lookup.{best_in_tree}
 use Rattle.tree.specs.declared.ChainBest.{ChainBest}

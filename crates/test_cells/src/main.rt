@@ -2,7 +2,7 @@
 // writer of `row`: a line for each case, then the listing record of document 01, section 2, then the counts.
 #![tactic(auto)]
 
-ghost use Rattle.std.specs.Prelude.{◌≤◌, IfOk};
+ghost use Rattle.std.specs.Prelude.{◌≤◌, IfOk, length};
 
 mod case;
 mod fields;
@@ -10,7 +10,6 @@ mod same;
 mod say;
 
 use std::io;
-use std::io::Read;
 
 // The whole list is read at once. One that fills this is refused, since it may go on.
 const ROOM: usize = 1048576;
@@ -41,11 +40,18 @@ fn replay(rt: &impl Print, s: &[u8]) -> io::Result<()> {
     say::counts(rt, cases, differ)
 }
 
+// Reads the list and answers its length. So long an array goes by a reference to it: lent as a slice, the prover counts it.
+fn read_list(rt: &impl Input, list: &mut [u8; ROOM]) -> io::Result<usize>
+    ensures { IfOk result (λ n. n ≤ length list.new) }
+{
+    test_text::read_full(rt, list)
+}
+
 fn main(rt: HostRuntime) -> io::Result<()> {
-    let mut input = Vec::new(rt.alloc());
-    let n = rt.reader().take(ROOM as u64).read_to_end(&mut input)?;
+    let mut input = [0u8; ROOM];
+    let n = read_list(&rt, &mut input)?;
     if n == ROOM {
         return println!(rt; "the list does not fit");
     }
-    replay(&rt, &input)
+    replay(&rt, &input[..n])
 }

@@ -3,7 +3,7 @@
 // pages in use is compared.
 #![tactic(auto)]
 
-ghost use Rattle.std.specs.Prelude.{◌≡◌, ◌<◌, ◌≤◌, length};
+ghost use Rattle.std.specs.Prelude.{◌≡◌, ◌<◌, ◌≤◌, IfOk, length};
 
 mod data;
 mod tally;
@@ -13,6 +13,7 @@ use call_answers::{Changed, CountedAt};
 use mvcc::Current;
 use page::PAGE_SIZE;
 use page::pool::State;
+use std::io;
 use tally::Counts;
 use test_text::NumberText;
 use test_text::fields::{Head, HeadText};
@@ -100,7 +101,7 @@ fn cleared(run: Run, r: CountedAt, done: usize, nothing: usize, counts: &mut Cou
                 root: run.root,
                 used: run.used,
                 told: run.told,
-                dropped: std::num::wrapping_add_u64(run.dropped, n as u64),
+                dropped: run.dropped.wrapping_add(n as u64),
             }
         }
     }
@@ -244,27 +245,34 @@ fn same(ours: &[u8], want: &[u8], used: u32, told: u32) -> bool
         return false;
     }
     let e = n as usize * PAGE_SIZE;
-    check::same(&ours[0..e], &want[0..e])
+    &ours[0..e] == &want[0..e]
 }
 
 // = COUNT
-fn end(s: &[u8], ours: &[u8], want: &[u8], run: Run, counts: &mut Counts) -> Run
+fn end(
+    rt: &impl Print,
+    s: &[u8],
+    ours: &[u8],
+    want: &[u8],
+    run: Run,
+    counts: &mut Counts,
+) -> io::Result<Run>
     requires { (length ours.now ≡ 2129920) × (length want.now ≡ 2129920) }
 {
     let NumberText::Got(x) = test_text::number(test_text::rest(s, 1), u64::MAX) else {
-        return fault(run, counts);
+        return Ok(fault(run, counts));
     };
     tally::note(counts, tally::CASES);
     if x != run.dropped || !same(ours, want, run.used, run.told) {
         tally::note(counts, tally::DIFFER);
-        tally::differs(counts);
+        tally::differs(rt, counts)?;
     }
-    Run {
+    Ok(Run {
         root: run.root,
         used: run.used,
         told: run.told,
         dropped: 0,
-    }
+    })
 }
 
 // p PAGE
@@ -280,23 +288,36 @@ fn page_line(s: &[u8], want: &mut [u8], run: Run, counts: &mut Counts) -> Run
     tell(s, want, run, p as u32, counts)
 }
 
-fn line(s: &[u8], ours: &mut [u8], want: &mut [u8], run: Run, counts: &mut Counts) -> Run
+fn line(
+    rt: &impl Print,
+    s: &[u8],
+    ours: &mut [u8],
+    want: &mut [u8],
+    run: Run,
+    counts: &mut Counts,
+) -> io::Result<Run>
     requires { (length ours.old ≡ 2129920) × (length want.old ≡ 2129920) }
 {
     if s.len() == 0 {
-        return fault(run, counts);
+        return Ok(fault(run, counts));
     }
     let kind = s[0];
     match kind {
-        b'#' => run,
-        b'n' => begin(s, ours, want, run, counts),
-        b'=' => end(s, ours, want, run, counts),
-        b'p' => page_line(s, want, run, counts),
-        _ => call(s, kind, ours, run, counts),
+        b'#' => Ok(run),
+        b'n' => Ok(begin(s, ours, want, run, counts)),
+        b'=' => end(rt, s, ours, want, run, counts),
+        b'p' => Ok(page_line(s, want, run, counts)),
+        _ => Ok(call(s, kind, ours, run, counts)),
     }
 }
 
-fn replay(s: &[u8], ours: &mut [u8; POOL], want: &mut [u8; POOL], counts: &mut Counts) {
+fn replay(
+    rt: &impl Print,
+    s: &[u8],
+    ours: &mut [u8; POOL],
+    want: &mut [u8; POOL],
+    counts: &mut Counts,
+) -> io::Result<()> {
     let mut run = Run {
         root: 0,
         used: 0,
@@ -305,29 +326,29 @@ fn replay(s: &[u8], ours: &mut [u8; POOL], want: &mut [u8; POOL], counts: &mut C
     };
     let mut at = 0;
     while at < s.len() {
-        let e = bytes::scan::find(s, at, s.len(), b'\n');
-        run = line(&s[at..e], ours, want, run, counts);
+        let e = test_text::find(s, at, b'\n');
+        run = line(rt, &s[at..e], ours, want, run, counts)?;
         at = e + 1;
     }
+    Ok(())
 }
 
 // Reads the list and answers its length. So long an array goes by a reference to it: lent as a slice, the prover counts it.
-fn read_list(list: &mut [u8; ROOM]) -> usize
-    ensures { result ≤ length list.new }
+fn read_list(rt: &impl Input, list: &mut [u8; ROOM]) -> io::Result<usize>
+    ensures { IfOk result (λ n. n ≤ length list.new) }
 {
-    io::read_full(libc::STDIN_FILENO, list)
+    test_text::read_full(rt, list)
 }
 
-fn main() {
+fn main(rt: HostRuntime) -> io::Result<()> {
     let mut input = [0u8; ROOM];
-    let n = read_list(&mut input);
+    let n = read_list(&rt, &mut input)?;
     if n == ROOM {
-        io::write_all(libc::STDOUT_FILENO, b"the list does not fit\n");
-        return;
+        return println!(rt; "the list does not fit");
     }
     let mut ours = [0u8; POOL];
     let mut want = [0u8; POOL];
     let mut counts = [0u64; tally::PLACES];
-    replay(&input[0..n], &mut ours, &mut want, &mut counts);
-    tally::report(&counts);
+    replay(&rt, &input[..n], &mut ours, &mut want, &mut counts)?;
+    tally::report(&rt, &counts)
 }

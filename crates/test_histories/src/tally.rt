@@ -1,4 +1,7 @@
 // What is counted, and the lines that say it: a place for each thing that a step can come to.
+use std::io;
+
+// Histories begun.
 pub const CREATED: usize = 0;
 
 // Versions inserted.
@@ -45,45 +48,45 @@ pub type Counts = [u64; PLACES];
 // A count is at most the length of the list, and so never wraps.
 pub fn note(counts: &mut Counts, place: usize) {
     if place < PLACES {
-        counts[place] = std::num::wrapping_add_u64(counts[place], 1);
+        counts[place] = counts[place].wrapping_add(1);
     }
 }
 
-fn say(n: u64, what: &[u8]) {
-    io::print_decimal(libc::STDOUT_FILENO, n);
-    io::write_all(libc::STDOUT_FILENO, what);
+fn say(rt: &impl Print, n: u64, what: &str) -> io::Result<()> {
+    print!(rt; "{n}{what}")
 }
 
 // Writes a line that names the last case, which differs.
-pub fn differs(counts: &Counts) {
-    io::write_all(libc::STDOUT_FILENO, b"case ");
-    say(counts[CASES], b" differs\n");
+pub fn differs(rt: &impl Print, counts: &Counts) -> io::Result<()> {
+    print!(rt; "case ")?;
+    say(rt, counts[CASES], " differs\n")
 }
 
-fn say_changes(counts: &Counts) {
-    say(counts[CREATED], b" histories\n");
-    say(counts[INSERTED], b" versions inserted\n");
+fn say_changes(rt: &impl Print, counts: &Counts) -> io::Result<()> {
+    say(rt, counts[CREATED], " histories\n")?;
+    say(rt, counts[INSERTED], " versions inserted\n")?;
     say(
+        rt,
         counts[UNDIVIDABLE],
-        b" versions that no division has room for\n",
-    );
-    say(counts[STAMPED], b" versions stamped\n");
-    say(counts[NOTHING_STAMPED], b" stamps that find nothing\n");
+        " versions that no division has room for\n",
+    )?;
+    say(rt, counts[STAMPED], " versions stamped\n")?;
+    say(rt, counts[NOTHING_STAMPED], " stamps that find nothing\n")
 }
 
-fn say_removals(counts: &Counts) {
-    say(counts[REMOVED], b" removals\n");
-    say(counts[NOTHING_REMOVED], b" removals that find nothing\n");
-    say(counts[VACUUMED], b" vacuums that drop versions\n");
-    say(counts[NOTHING_VACUUMED], b" vacuums that drop none\n");
+fn say_removals(rt: &impl Print, counts: &Counts) -> io::Result<()> {
+    say(rt, counts[REMOVED], " removals\n")?;
+    say(rt, counts[NOTHING_REMOVED], " removals that find nothing\n")?;
+    say(rt, counts[VACUUMED], " vacuums that drop versions\n")?;
+    say(rt, counts[NOTHING_VACUUMED], " vacuums that drop none\n")
 }
 
 // Writes all counts; the last line is how many cases there are, and how many differ.
-pub fn report(counts: &Counts) {
-    say_changes(counts);
-    say_removals(counts);
-    say(counts[TOLD], b" pages recorded\n");
-    say(counts[FAULT], b" faults\n");
-    say(counts[CASES], b" cases, ");
-    say(counts[DIFFER], b" differ\n");
+pub fn report(rt: &impl Print, counts: &Counts) -> io::Result<()> {
+    say_changes(rt, counts)?;
+    say_removals(rt, counts)?;
+    say(rt, counts[TOLD], " pages recorded\n")?;
+    say(rt, counts[FAULT], " faults\n")?;
+    say(rt, counts[CASES], " cases, ")?;
+    say(rt, counts[DIFFER], " differ\n")
 }

@@ -71,16 +71,16 @@ fn piece(s: &[u8], k: usize, pool: &[u8], out: &mut [u8], at: usize) -> usize
         return NO_PIECE;
     };
     let last = test_text::field(s, k + 2);
-    if check::same(kind, b"x") {
+    if kind == b"x".as_slice() {
         return plain_piece(out, at, x, last);
     }
     let NumberText::Got(y) = test_text::number(last, u64::MAX) else {
         return NO_PIECE;
     };
-    if check::same(kind, b"c") {
+    if kind == b"c".as_slice() {
         return copy_piece(pool, out, at, x, y);
     }
-    if check::same(kind, b"g") {
+    if kind == b"g".as_slice() {
         return data_piece(out, at, x, y);
     }
     NO_PIECE

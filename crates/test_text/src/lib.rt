@@ -4,14 +4,33 @@
 
 pub mod fields;
 
-ghost use Rattle.std.specs.Prelude.{◌≡◌, ℕ, ◌<◌, ◌≤◌, ◌≢◌, length, slice_index};
+ghost use Rattle.std.specs.Prelude.{◌≡◌, ℕ, ◌<◌, ◌≤◌, ◌≢◌, IfOk, length, slice_index};
 ghost use Rattle.test_text.specs.Within.{Within};
+
+use std::io;
+use std::io::Read;
 
 // The number that a text spells, or a text that spells none.
 #[derive(Clone, Copy)]
 pub enum NumberText {
     Got(u64),
     Bad,
+}
+
+// Reads standard input into `out` until it is full or the input ends, and answers how many bytes were read.
+pub fn read_full(rt: &impl Input, out: &mut [u8]) -> io::Result<usize>
+    ensures { IfOk result (λ n. n ≤ length out.new) }
+{
+    let mut input = rt.reader();
+    let mut n = 0;
+    while n < out.len() {
+        let got = input.read(&mut out[n..])?;
+        if got == 0 {
+            return Ok(n);
+        }
+        n += got;
+    }
+    Ok(n)
 }
 
 // Where the first byte b stands at `from` or past it, or the length of s where there is none.

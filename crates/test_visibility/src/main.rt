@@ -2,12 +2,13 @@
 // says what a digit means, and how the list was made): counts, then how many differ.
 #![tactic(auto)]
 
+ghost use Rattle.std.specs.Prelude.{◌≤◌, IfOk, length};
+
 mod case;
 mod draw;
 mod tally;
 
 use std::io;
-use std::io::Read;
 use tally::Counts;
 
 // The whole list is read at once. One that fills this is refused, since it may go on.
@@ -52,13 +53,20 @@ fn replay(s: &[u8], counts: &mut Counts) {
     }
 }
 
+// Reads the list and answers its length. So long an array goes by a reference to it: lent as a slice, the prover counts it.
+fn read_list(rt: &impl Input, list: &mut [u8; ROOM]) -> io::Result<usize>
+    ensures { IfOk result (λ n. n ≤ length list.new) }
+{
+    test_text::read_full(rt, list)
+}
+
 fn main(rt: HostRuntime) -> io::Result<()> {
-    let mut input = Vec::new(rt.alloc());
-    let n = rt.reader().take(ROOM as u64).read_to_end(&mut input)?;
+    let mut input = [0u8; ROOM];
+    let n = read_list(&rt, &mut input)?;
     if n == ROOM {
         return println!(rt; "the list does not fit");
     }
     let mut counts = [0u64; tally::PLACES];
-    replay(&input, &mut counts);
+    replay(&input[..n], &mut counts);
     tally::report(&rt, &counts)
 }

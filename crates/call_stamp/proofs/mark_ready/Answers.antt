@@ -1,6 +1,5 @@
 -- `call_stamp::mark_ready` meets its contract: each way out is one law of Calls. Assumes nothing.
 use native.Mathlib.Omega.{arith}
-use Rattle.mvcc.specs.Snapshot.{statuses}
 use Rattle.page.proofs.PoolLaws.{pool-is}
 use Rattle.mvcc.proofs.Laws.{good-active-rises, good-statuses-judged}
 use Rattle.call_stamp.proofs.Stamping.{looked_finds, target_met}
