@@ -1,7 +1,7 @@
 #!/bin/sh
 # Instructions of each call, by valgrind: the difference of a run with 2n calls and one with n, divided by n. A listing's,
 # check's and vacuum's are also divided by the rows or pages. `count.sh original` counts aerodb's code too, where the
-# harness adds little to it. Needs target/staticlib/libport.a (rt staticlib port).
+# harness adds little to it. Needs target/staticlib/libport.a (tools/archive).
 set -eu
 cd "$(dirname "$0")"
 cargo build --offline --release --quiet -p bench

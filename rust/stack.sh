@@ -1,7 +1,7 @@
 #!/bin/sh
 # The most stack that each exported call takes, from the archive's disassembly: every push and every `sub rsp` of a
 # function, the return address, and the deepest function that it calls. A function that calls itself goes down a tree of
-# four levels. Needs target/staticlib/libport.a (rt staticlib port).
+# four levels. Needs target/staticlib/libport.a (tools/archive).
 set -eu
 cd "$(dirname "$0")"
 objdump -dr --no-show-raw-insn -M intel ../target/staticlib/libport.a | awk '

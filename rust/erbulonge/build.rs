@@ -1,4 +1,4 @@
-//! Links the archive of the proved crate `port`.
+//! Links the archive of the proved crate `port_c`, the exports of `port`.
 use std::path::Path;
 
 fn main() {
@@ -7,7 +7,7 @@ fn main() {
     println!("cargo::rerun-if-changed={}", archive.display());
     if !archive.exists() {
         println!(
-            "cargo::error=there is no target/staticlib/libport.a: run `rt staticlib port` at the top of the repository (it proves the crate and writes the archive)"
+            "cargo::error=there is no target/staticlib/libport.a: run `tools/archive` at the top of the repository (it proves the crate and writes the archive)"
         );
         return;
     }
