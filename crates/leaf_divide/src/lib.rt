@@ -93,7 +93,7 @@ pub fn insert_divide_left(
     body: &[u8],
 )
     requires p_lt_q { (p < q) × (q * 4096 + 4096 ≤ length pool.old) × (page pool.old q ≡ zeros 4096) }
-    requires le_at { (12 ≤ at) × (e ≤ 4096) × (12 + cut.bytes ≤ 4096) × (n < 65535) × (cut.cells ≤ n + 1) × (length body.now ≤ 4051) }
+    requires at_bound { (12 ≤ at) × (e ≤ 4096) × (12 + cut.bytes ≤ 4096) × (n < 65535) × (cut.cells ≤ n + 1) × (length body.now ≤ 4051) }
     requires body_bound { (at + cell_size stamp pointer (length body.now) ≤ 12 + cut.bytes) × (12 + cut.bytes ≤ e + cell_size stamp pointer (length body.now)) }
     ensures { pool.new ≡ divided p q (n + 1) cut (spliced at at e (cell_bytes key creator stamp pointer body.now) (page pool.old p)) pool.old }
 {

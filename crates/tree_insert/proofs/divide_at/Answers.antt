@@ -17,6 +17,6 @@ insert_divide_left-requires c =
     let t = c.requires.insert_cut_stands in
     record {
       p_lt_q = (h.0, h.1, h.2);
-      le_at = (t.low, t.within, omega (arith, t.left), omega (arith, t.few), omega (arith, t.cells), h.3);
+      at_bound = (t.low, t.within, omega (arith, t.left), omega (arith, t.few), omega (arith, t.cells), h.3);
       body_bound = (w, t.whole);
     }
