@@ -1,5 +1,5 @@
 -- Insert and insert version (document 01, sections 4 to 6). What either would do is judged on the unchanged pool, and only
--- then stored; `..Run` also says the fault behind a BadTree, and the call hides it.
+-- then stored; `.._run` also says the fault behind a BadTree, and the call hides it.
 use Rattle.std.specs.Prelude.{List, ℕ, leb, length}
 use Rattle.page.specs.Pool.{good_pool, grown}
 use Rattle.page.specs.declared.pool.State.{State}

@@ -1,5 +1,5 @@
 -- Stamp, plain stamp and plain delete (document 01, sections 4 to 6): the largest visible creator of the key, the last on a
--- tie, gets the deleter's stamp. `..Run` also says the fault behind a BadTree, and the call hides it.
+-- tie, gets the deleter's stamp. `.._run` also says the fault behind a BadTree, and the call hides it.
 use Rattle.std.specs.Prelude.{Bool, false, List, ℕ}
 use Rattle.store.specs.Pick.{pick}
 use Rattle.page.specs.Page.{page}

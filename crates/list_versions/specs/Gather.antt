@@ -1,4 +1,4 @@
--- The versions that a walk along the chain meets, in chain order (document 01, section 4: "Versions and all_versions list
+-- The versions that a walk along the chain meets, in chain order (document 01, section 4: "Versions and all-versions list
 -- chain order"): those of a key, until a leaf holds a larger one, or all to the chain's end.
 use Rattle.std.specs.Prelude.{Bool, false, List, [], ◌++◌, ℕ}
 use Rattle.store.specs.Pick.{pick}
