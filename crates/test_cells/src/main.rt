@@ -2,7 +2,7 @@
 // writer of `row`: a line for each case, then the listing record of document 01, section 2, then the counts.
 #![tactic(auto)]
 
-ghost use Rattle.std.specs.Prelude.{◌≤◌, IfOk, length};
+ghost use Rattle.std.specs.Prelude.{◌≤◌, IfOk};
 
 mod case;
 mod fields;
@@ -40,16 +40,9 @@ fn replay(rt: &impl Print, s: &[u8]) -> io::Result<()> {
     say::counts(rt, cases, differ)
 }
 
-// Reads the list and answers its length. So long an array goes by a reference to it: lent as a slice, the prover counts it.
-fn read_list(rt: &impl Input, list: &mut [u8; ROOM]) -> io::Result<usize>
-    ensures { IfOk result (λ n. n ≤ length list.new) }
-{
-    test_text::read_full(rt, list)
-}
-
 fn main(rt: HostRuntime) -> io::Result<()> {
     let mut input = [0u8; ROOM];
-    let n = read_list(&rt, &mut input)?;
+    let n = test_text::read_full(&rt, &mut input)?;
     if n == ROOM {
         return println!(rt; "the list does not fit");
     }

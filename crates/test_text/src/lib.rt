@@ -17,14 +17,16 @@ pub enum NumberText {
     Bad,
 }
 
-// Reads standard input into `out` until it is full or the input ends, and answers how many bytes were read.
-pub fn read_full(rt: &impl Input, out: &mut [u8]) -> io::Result<usize>
+// Reads standard input into `out` until it is full or the input ends, and answers how many bytes were read. The array goes by a
+// reference to it: where a long one is lent as a slice, the prover counts it.
+pub fn read_full<const N: usize>(rt: &impl Input, out: &mut [u8; N]) -> io::Result<usize>
     ensures { IfOk result (λ n. n ≤ length out.new) }
 {
     let mut input = rt.reader();
+    let list = &mut out[..];
     let mut n = 0;
-    while n < out.len() {
-        let got = input.read(&mut out[n..])?;
+    while n < list.len() {
+        let got = input.read(&mut list[n..])?;
         if got == 0 {
             return Ok(n);
         }

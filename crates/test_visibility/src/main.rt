@@ -2,8 +2,6 @@
 // says what a digit means, and how the list was made): counts, then how many differ.
 #![tactic(auto)]
 
-ghost use Rattle.std.specs.Prelude.{◌≤◌, IfOk, length};
-
 mod case;
 mod draw;
 mod tally;
@@ -53,16 +51,9 @@ fn replay(s: &[u8], counts: &mut Counts) {
     }
 }
 
-// Reads the list and answers its length. So long an array goes by a reference to it: lent as a slice, the prover counts it.
-fn read_list(rt: &impl Input, list: &mut [u8; ROOM]) -> io::Result<usize>
-    ensures { IfOk result (λ n. n ≤ length list.new) }
-{
-    test_text::read_full(rt, list)
-}
-
 fn main(rt: HostRuntime) -> io::Result<()> {
     let mut input = [0u8; ROOM];
-    let n = read_list(&rt, &mut input)?;
+    let n = test_text::read_full(&rt, &mut input)?;
     if n == ROOM {
         return println!(rt; "the list does not fit");
     }

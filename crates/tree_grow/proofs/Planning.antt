@@ -2,13 +2,13 @@
 -- `plan_of` says. Assumes nothing.
 use mathlib.Core.Path.{◌≡◌, refl, sym, ap, ◌∙◌}
 use mathlib.Core.Bool.{Bool, true, false, not, ◌&&◌}
-use mathlib.Core.List.{List, [], ◌∷◌, ◌++◌, map}
+use mathlib.Core.List.{List, [], ◌∷◌, ◌++◌}
 use mathlib.Core.Logic.{◌⊎◌, inl, inr}
 use Prim.Native.Nat.{ℕ, zero, suc, ◌+◌, ◌-◌, ◌≤◌, ◌<◌}
 use native.Mathlib.Omega.{arith}
 use native.Mathlib.Nat.{zero-add, add-zero}
 use lib.Dec.{ltb, eqb, eqb-zero-suc, eqb-suc-suc}
-use lib.ListN.{length, length-map}
+use lib.ListN.{length}
 use lib.Seq.{drop-cons}
 use borrow.Author.Tests.{lt-ltb, le-ltb, eq-eqb, ne_eqb, not-true, not-false}
 use Rattle.store.specs.Pick.{pick}
@@ -104,9 +104,6 @@ module _ (used i : ℕ) (relocated : Bool) (pg : List ℕ) {k : ℕ} {r : Links}
 -- ---- the pages above, from a path
 
 -- what owning the path tells of its length
-pub four_pages : (s : List ℕ) → length (map (λ (v : ℕ). v) s) ≡ 4 → length s ≡ 4
-four_pages s e = sym (length-map s (λ (v : ℕ). v)) ∙ e
-
 pub above_next : (path : Path) (level : ℕ) → length path.pages ≡ 4 → path.len ≤ 4 → level + 1 < path.len
     → pages_above path level ≡ page_at path (level + 1) ∷ pages_above path (level + 1)
 unfolding pages_above part
