@@ -1,142 +1,99 @@
-// The answers of all calls (document 01, section 6): the refusals by name, what a refusal carries, and one enum for each
-// kind of value that Done gives. A call inside answers with a `Refusal`, which has the fault behind a BadTree; the public
-// call gives the number alone.
+// The answers of all calls (document 01, section 6): `Ok` is Done, with what it gives; `Err` has the refusal. A call inside
+// says why with a `Refused`, which has the fault behind a BadTree; the public call gives the `Refusal` alone.
 #![tactic(auto)]
 
 ghost use Rattle.std.specs.Prelude.{◌≡◌};
-ghost use Rattle.call_answers.specs.Answer.{refusal_of, faulty, hide_state, hide_count, of_stated, of_counted};
+ghost use Rattle.call_answers.specs.Answer.{refusal_of, faulty, number_of};
 
-use page::pool::State;
-use row::{Cell, Fault, Version};
+use row::Fault;
 
-// Length not 1 to 65,536 whole pages, or pages in use above that.
-pub const BAD_POOL: u8 = 1;
-
-// Something that was read is not as section 3 asks; nothing was stored.
-pub const BAD_TREE: u8 = 2;
-
-// Active list over 4096 or not strictly rising; claim with no current transaction, or 0.
-pub const BAD_SNAPSHOT: u8 = 3;
-
-// Status list over 65,536 entries, not strictly rising, or with a state that is not 1 to 3.
-pub const BAD_STATUSES: u8 = 4;
-
-// Data over 4051 bytes.
-pub const BAD_DATA: u8 = 5;
-
-// Insert sees a version of the key.
-pub const DUPLICATE: u8 = 6;
-
-// Claim's test holds: another transaction changed the key after the snapshot.
-pub const CONFLICT: u8 = 7;
-
-// Nothing visible to find, stamp or claim.
-pub const ABSENT: u8 = 8;
-
-// An insertion overfills a leaf, and no cut gives two sides that fit a page.
-pub const UNDIVIDABLE: u8 = 9;
-
-// More pages are needed than are not in use.
-pub const NO_PAGES: u8 = 10;
-
-// The root must grow from 4 levels.
-pub const TOO_DEEP: u8 = 11;
-
-// The listing is longer than the output.
-pub const SHORT: u8 = 12;
-
-// A refusal's number, and for a BadTree what was met and where.
-#[derive(Clone, Copy)]
-pub struct Refusal {
-    pub number: u8,
-    pub fault: Fault,
+// Why a call is refused, in the order and with the numbers of the table in document 01, section 6.
+#[derive(Clone, Copy, PartialEq, Eq, Debug)]
+pub enum Refusal {
+    // Length not 1 to 65,536 whole pages, or pages in use above that.
+    BadPool = 1,
+    // Something that was read is not as section 3 asks; nothing was stored.
+    BadTree,
+    // Active list over 4096 or not strictly rising; claim with no current transaction, or 0.
+    BadSnapshot,
+    // Status list over 65,536 entries, not strictly rising, or with a state that is not 1 to 3.
+    BadStatuses,
+    // Data over 4051 bytes.
+    BadData,
+    // Insert sees a version of the key.
+    Duplicate,
+    // Claim's test holds: another transaction changed the key after the snapshot.
+    Conflict,
+    // Nothing visible to find, stamp or claim.
+    Absent,
+    // An insertion overfills a leaf, and no cut gives two sides that fit a page.
+    Undividable,
+    // More pages are needed than are not in use.
+    NoPages,
+    // The root must grow from 4 levels.
+    TooDeep,
+    // The listing is longer than the output.
+    Short,
 }
 
-// The version that a lookup finds, with its page; taken apart by `let else`.
-#[derive(Clone, Copy)]
-pub enum Looked {
-    At(u32, Cell),
-    Refused(Refusal),
+// The number by which C knows the refusal; 0 is Done.
+impl From<Refusal> for u8 {
+    ghost from_gives = { λ r n. n ≡ number_of r };
+
+    fn from(r: Refusal) -> u8 {
+        match r {
+            Refusal::BadPool => 1,
+            Refusal::BadTree => 2,
+            Refusal::BadSnapshot => 3,
+            Refusal::BadStatuses => 4,
+            Refusal::BadData => 5,
+            Refusal::Duplicate => 6,
+            Refusal::Conflict => 7,
+            Refusal::Absent => 8,
+            Refusal::Undividable => 9,
+            Refusal::NoPages => 10,
+            Refusal::TooDeep => 11,
+            Refusal::Short => 12,
+        }
+    }
 }
 
-// A version, its data a part of the pool; or the refusal's number.
-#[derive(Clone, Copy)]
-pub enum Found {
-    Done(Version),
-    Refused(u8),
-}
-
-// Yes or no; or the refusal's number.
-#[derive(Clone, Copy)]
-pub enum YesNo {
-    Done(bool),
-    Refused(u8),
-}
-
-// The new state, or the refusal with the fault behind a BadTree.
-#[derive(Clone, Copy)]
-pub enum Changed {
-    Done(State),
-    Refused(Refusal),
-}
-
-// The new state, or the refusal's number.
-#[derive(Clone, Copy)]
-pub enum Stated {
-    Done(State),
-    Refused(u8),
-}
-
-// Bytes written or versions dropped, or the refusal with the fault behind a BadTree.
-#[derive(Clone, Copy)]
-pub enum CountedAt {
-    Done(usize),
-    Refused(Refusal),
-}
-
-// Bytes written or versions dropped, or the refusal's number.
-#[derive(Clone, Copy)]
-pub enum Counted {
-    Done(usize),
-    Refused(u8),
+// A refusal, and for a BadTree what was met and where.
+#[derive(Clone, Copy, PartialEq, Eq, Debug)]
+pub struct Refused {
+    pub refusal: Refusal,
+    pub fault: Option<Fault>,
 }
 
 // A refusal that no byte of the tree is behind.
-pub fn refuse(number: u8) -> Refusal
-    ensures { result ≡ refusal_of number }
-{
-    Refusal {
-        number,
-        fault: row::NO_FAULT,
+impl From<Refusal> for Refused {
+    ghost from_gives = { λ r e. e ≡ refusal_of r };
+
+    fn from(refusal: Refusal) -> Refused {
+        Refused {
+            refusal,
+            fault: None,
+        }
     }
 }
 
 // BadTree, with what was met.
-pub fn bad_tree(fault: Fault) -> Refusal
-    ensures { result ≡ faulty fault }
-{
-    Refusal {
-        number: BAD_TREE,
-        fault,
+impl From<Fault> for Refused {
+    ghost from_gives = { λ f e. e ≡ faulty f };
+
+    fn from(fault: Fault) -> Refused {
+        Refused {
+            refusal: Refusal::BadTree,
+            fault: Some(fault),
+        }
     }
 }
 
 // The public answer: the fault is dropped.
-pub fn stated_of(r: Changed) -> Stated
-    ensures { of_stated result ≡ hide_state r }
-{
-    match r {
-        Changed::Done(st) => Stated::Done(st),
-        Changed::Refused(f) => Stated::Refused(f.number),
-    }
-}
+impl From<Refused> for Refusal {
+    ghost from_gives = { λ r e. e ≡ r.refusal };
 
-// The public answer: the fault is dropped.
-pub fn counted_of(r: CountedAt) -> Counted
-    ensures { of_counted result ≡ hide_count r }
-{
-    match r {
-        CountedAt::Done(n) => Counted::Done(n),
-        CountedAt::Refused(f) => Counted::Refused(f.number),
+    fn from(refused: Refused) -> Refusal {
+        refused.refusal
     }
 }

@@ -1,5 +1,6 @@
 -- The run of a key in a judged leaf stands within its cells and is no longer than they are many; a leaf has few cells to
 -- drop; and what a leaf says of the walks that judge. Assumes nothing.
+use Rattle.std.proofs.Common.{Result, Ok, Err}
 use mathlib.Core.Path.{◌≡◌, sym, ap, ◌∙◌}
 use mathlib.Core.Bool.{Bool, true, false}
 use mathlib.Core.List.{List}
@@ -11,9 +12,7 @@ use Rattle.row.specs.declared.Fault.{Fault}
 use Rattle.leaf.specs.Cells.{cells, on_judged}
 use Rattle.leaf.specs.Rows.{row_of, rows}
 use Rattle.leaf.specs.Find.{run_leaf}
-use Rattle.leaf.specs.declared.Judged.{Judged}
 use Rattle.leaf.specs.declared.find.Run.{Run}
-use Rattle.leaf.specs.declared.find.LeafRun.{LeafRun}
 use Rattle.leaf_vacuum.specs.Vacuum.{vacuumed_leaf}
 use Rattle.leaf_vacuum.specs.declared.Vacuumed.{Vacuumed}
 use Rattle.tree.specs.Chain.{Seen, stop, go, broken}
@@ -38,8 +37,8 @@ pub record RunFits (pg : List ℕ) (run : Run) (e : ℕ) : Type 0 where
   pub count : run.count ≤ cell_count pg
   pub few : run.count ≤ 65535
 
-module _ (p key : ℕ) (pg : List ℕ) {r : LeafRun} (said : r ≡ run_leaf pg p key) where
-  module _ {run : Run} {e : ℕ} {larger : Bool} (good : r ≡ LeafRun.Ok run e larger) where
+module _ (p key : ℕ) (pg : List ℕ) {r : Result (Run × ℕ × Bool) Fault} (said : r ≡ run_leaf pg p key) where
+  module _ {run : Run} {e : ℕ} {larger : Bool} (good : r ≡ Ok (run, e, larger)) where
     pub run-there : RunIs pg p key run e larger
     run-there = run_is pg p key e run larger (sym said ∙ good)
 
@@ -64,16 +63,16 @@ module _ (p key : ℕ) (pg : List ℕ) {r : LeafRun} (said : r ≡ run_leaf pg p
     pub run-go : (n : ℕ) → larger ≡ false → look_held key n p pg ≡ go (n + run.count)
     run-go n t = rw (run-there.judged, run-there.last ∙ t, ← run-count run-there)
 
-  pub run-broken : (n : ℕ) {f : Fault} → r ≡ LeafRun.Bad f → look_held key n p pg ≡ broken f
+  pub run-broken : (n : ℕ) {f : Fault} → r ≡ Err f → look_held key n p pg ≡ broken f
   run-broken n {f} bad = rw (run_bad pg p key f (sym said ∙ bad))
 
 -- and a judgement of the walk that only judges
-module _ {r x : Judged} (n : ℕ) (said : r ≡ x) where
-  pub leaf-broken : {f : Fault} → r ≡ Judged.Bad f → on_judged {A = Seen ℕ} (λ e. go n) broken x ≡ broken f
-  leaf-broken e = ap (on_judged {A = Seen ℕ} (λ d. go n) broken) (sym said ∙ e)
+module _ {r x : Result ℕ Fault} (said : r ≡ x) where
+  pub leaf-broken : {f : Fault} → r ≡ Err f → on_judged {A = Seen (Unit {0})} (λ e. go tt) broken x ≡ broken f
+  leaf-broken e = ap (on_judged {A = Seen (Unit {0})} (λ d. go tt) broken) (sym said ∙ e)
 
-  pub leaf-go : {e : ℕ} → r ≡ Judged.Ok e → on_judged {A = Seen ℕ} (λ d. go n) broken x ≡ go n
-  leaf-go e = ap (on_judged {A = Seen ℕ} (λ d. go n) broken) (sym said ∙ e)
+  pub leaf-go : {e : ℕ} → r ≡ Ok e → on_judged {A = Seen (Unit {0})} (λ d. go tt) broken x ≡ go tt
+  leaf-go e = ap (on_judged {A = Seen (Unit {0})} (λ d. go tt) broken) (sym said ∙ e)
 
 -- ---- vacuum
 

@@ -1,5 +1,6 @@
 -- The ways out of the walks that store, one law each: what is left to do, from the pool as it is now, gives what all of it
 -- gives. Assumes nothing.
+use Rattle.std.proofs.Common.{Result, Ok, Err}
 use mathlib.Core.Path.{◌≡◌, refl, sym, ◌∙◌}
 use mathlib.Core.Bool.{Bool, true, false}
 use mathlib.Core.List.{List}
@@ -10,13 +11,11 @@ use borrow.Rule.Slice.PartMut.{put_mid}
 use lib.ListN.{length}
 use Rattle.store.specs.Le.{AreBytes}
 use Rattle.page.specs.Page.{page, set_page}
-use Rattle.page.specs.Header.{cell_count, next_leaf}
+use Rattle.page.specs.Header.{next_leaf}
 use Rattle.row.specs.declared.Fault.{Fault}
 use Rattle.leaf.specs.Cells.{cells, judge_leaf, has_larger}
 use Rattle.leaf.specs.RowFacts.{Sound}
-use Rattle.leaf.specs.declared.Judged.{Judged}
 use Rattle.leaf.specs.declared.find.Run.{Run}
-use Rattle.leaf_edit.specs.Edit.{without}
 use Rattle.leaf_vacuum.specs.Vacuum.{vacuumed_leaf}
 use Rattle.leaf_vacuum.specs.declared.Vacuumed.{Vacuumed}
 use Rattle.call_answers.specs.Answer.{ended}
@@ -35,14 +34,7 @@ page_made p s {y} {x} e = back_page p s y ∙ rw e
 
 -- ---- a leaf without its cells of a key
 
-module _ (run : Run) (e : ℕ) (pg : List ℕ) where
-  pub run_none : run.count ≡ 0 → pg ≡ without_run run e pg
-  run_none z = rw (eq-eqb run.count 0 z)
-
-  pub run_some : {n : ℕ} {t : List ℕ} → (run.count ≡ 0 → ⊥) → n ≡ cell_count pg → t ≡ without run.from run.to run.count e n pg → t ≡ without_run run e pg
-  run_some z q u = u ∙ rw (ne_eqb run.count 0 z, q)
-
--- it is the leaf with the rows of the other keys
+-- a leaf without its run is the leaf with the rows of the other keys
 run_removed : (p key : ℕ) (pg : List ℕ) → AreBytes pg → length pg ≡ 4096 → {run : Run} {e : ℕ} {larger : Bool} → RunIs pg p key run e larger → without_run run e pg ≡ removed_leaf pg key
 unfolding removed_leaf
 run_removed p key pg B len {run} {e} {larger} r =
@@ -68,12 +60,12 @@ module _ (used key p : ℕ) (s : List ℕ) where
   remove_unused (suc m) h = rw (le-ltb p used h)
 
   module _ (h : p < used) where
-    pub remove_bad : (m : ℕ) {f : Fault} → judge_leaf (page s p) p ≡ Judged.Bad f → s ≡ removed_along s used p key m
+    pub remove_bad : (m : ℕ) {f : Fault} → judge_leaf (page s p) p ≡ Err f → s ≡ removed_along s used p key m
     unfolding removed_along
     remove_bad zero e = refl
     remove_bad (suc m) e = rw (lt-ltb p used h, e)
 
-    module _ {e : ℕ} (judged : judge_leaf (page s p) p ≡ Judged.Ok e) {t : List ℕ} (made : t ≡ set_page p (removed_leaf (page s p) key) s)
+    module _ {e : ℕ} (judged : judge_leaf (page s p) p ≡ Ok e) {t : List ℕ} (made : t ≡ set_page p (removed_leaf (page s p) key) s)
         {larger : Bool} (last : has_larger key (cells (page s p)) ≡ larger) where
       pub remove-last : (m : ℕ) → 0 < m → larger ≡ true → t ≡ removed_along s used p key m
       unfolding removed_along
@@ -86,12 +78,12 @@ module _ (used key p : ℕ) (s : List ℕ) where
         remove-end zero z l q = absurd (omega arith)
         remove-end (suc m) z l q = made ∙ rw (lt-ltb p used h, judged, last ∙ l, eq-eqb (next_leaf (page s p)) 0 (sym next ∙ q))
 
-        pub remove_on : (m : ℕ) → 0 < m → larger ≡ false → (n ≡ 0 → ⊥) → removed_along t used n key (m - 1) ≡ removed_along s used p key m
+        pub remove_on : (m : ℕ) {k : ℕ} → m ≡ suc k → larger ≡ false → (n ≡ 0 → ⊥) → removed_along t used n key k ≡ removed_along s used p key m
         unfolding removed_along
         remove_on zero z l q = absurd (omega arith)
-        remove_on (suc m) z l q =
-            let k : suc m - 1 ≡ m = omega arith in
-            rw (lt-ltb p used h, judged, last ∙ l, ne_eqb (next_leaf (page s p)) 0 (λ u. q (next ∙ u)), k, next, made)
+        remove_on (suc m) {k} z l q =
+            let w : m ≡ k = omega arith in
+            rw (lt-ltb p used h, judged, last ∙ l, ne_eqb (next_leaf (page s p)) 0 (λ u. q (next ∙ u)), w, next, made)
 
 -- ---- vacuum
 
@@ -106,22 +98,22 @@ module _ (st : ℕ → ℕ) (bound used d p : ℕ) (s : List ℕ) where
   vacuum_unused zero h = refl
   vacuum_unused (suc m) h = rw (le-ltb p used h)
 
-  module _ (h : p < used) {r : Judged} (said : r ≡ judge_leaf (page s p) p) where
-    pub vacuum_bad : (m : ℕ) {f : Fault} → r ≡ Judged.Bad f → ended d s ≡ vacuumed_along s used p st bound m d
+  module _ (h : p < used) {r : Result ℕ Fault} (said : r ≡ judge_leaf (page s p) p) where
+    pub vacuum_bad : (m : ℕ) {f : Fault} → r ≡ Err f → ended d s ≡ vacuumed_along s used p st bound m d
     unfolding vacuumed_along
     vacuum_bad zero e = refl
     vacuum_bad (suc m) e = rw (lt-ltb p used h, sym said ∙ e)
 
-    module _ {e : ℕ} (good : r ≡ Judged.Ok e) {w : Vacuumed} (told : w ≡ (vacuumed_leaf (page s p) st bound).told) {t : List ℕ}
+    module _ {e : ℕ} (good : r ≡ Ok e) {w : Vacuumed} (told : w ≡ (vacuumed_leaf (page s p) st bound).told) {t : List ℕ}
         (made : t ≡ set_page p (vacuumed_leaf (page s p) st bound).page s) {n : ℕ} (next : n ≡ next_leaf (page s p)) where
       pub vacuum-end : (m : ℕ) → 0 < m → n ≡ 0 → ended (d + w.dropped) t ≡ vacuumed_along s used p st bound m d
       unfolding vacuumed_along
       vacuum-end zero z q = absurd (omega arith)
       vacuum-end (suc m) z q = rw (told, made, lt-ltb p used h, sym said ∙ good, eq-eqb (next_leaf (page s p)) 0 (sym next ∙ q))
 
-      pub vacuum_on : (m : ℕ) → 0 < m → (n ≡ 0 → ⊥) → vacuumed_along t used n st bound (m - 1) (d + w.dropped) ≡ vacuumed_along s used p st bound m d
+      pub vacuum_on : (m : ℕ) {k : ℕ} → m ≡ suc k → (n ≡ 0 → ⊥) → vacuumed_along t used n st bound k (d + w.dropped) ≡ vacuumed_along s used p st bound m d
       unfolding vacuumed_along
       vacuum_on zero z q = absurd (omega arith)
-      vacuum_on (suc m) z q =
-          let k : suc m - 1 ≡ m = omega arith in
-          rw (told, made, lt-ltb p used h, sym said ∙ good, ne_eqb (next_leaf (page s p)) 0 (λ u. q (next ∙ u)), k, next)
+      vacuum_on (suc m) {k} z q =
+          let v : m ≡ k = omega arith in
+          rw (told, made, lt-ltb p used h, sym said ∙ good, ne_eqb (next_leaf (page s p)) 0 (λ u. q (next ∙ u)), v, next)

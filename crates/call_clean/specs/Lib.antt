@@ -1,5 +1,4 @@
 -- What a reader of the contracts of `call_clean` has to believe.
-pub mod Answer
 pub mod Remove
 pub mod Vacuum
 pub mod Steps

@@ -5,47 +5,31 @@ ghost use Rattle.page.specs.Header.{cell_count};
 ghost use Rattle.call_clean.specs.Remove.{count_along, removed_along};
 ghost use Rattle.call_clean.specs.Steps.Remove.{without_run};
 
-use leaf::find::{LeafRun, Run};
+use leaf::find::Run;
 use page::PAGE_SIZE;
 use row::Fault;
 
-// How many versions of the key a walk meets, or its fault.
-#[derive(Clone, Copy)]
-pub enum ChainCount {
-    Ok(usize),
-    Bad(Fault),
-}
-
 // How many versions of the key search meets from page `first` on, every leaf judged; or the first fault.
-pub fn count_along(pool: &[u8], used: u32, first: u32, key: u32) -> ChainCount
+pub fn count_along(pool: &[u8], used: u32, first: u32, key: u32) -> Result<usize, Fault>
     requires { (used * 4096 ≤ length pool.now) × (used ≤ 65536) }
     ensures { result ≡ count_along pool.now used first key }
 {
     let mut p = first;
     let mut count: usize = 0;
-    let mut left = used;
-    while 0 < left {
+    for _ in 0..used {
         if used <= p {
-            return ChainCount::Bad(row::structural_fault(p));
+            return Err(row::structural_fault(p));
         }
         let pg = page::pool::page_of(pool, p);
-        match leaf::find::run_in_leaf(pg, p, key) {
-            LeafRun::Bad(f) => return ChainCount::Bad(f),
-            LeafRun::Ok(run, _, larger) => {
-                let next = page::get_next_leaf(pg);
-                count += run.count;
-                if larger {
-                    return ChainCount::Ok(count);
-                }
-                if next == 0 {
-                    return ChainCount::Ok(count);
-                }
-                p = next;
-            }
+        let (run, _, larger) = leaf::find::run_in_leaf(pg, p, key)?;
+        let next = page::get_next_leaf(pg);
+        count += run.count;
+        if larger || next == 0 {
+            return Ok(count);
         }
-        left -= 1;
+        p = next;
     }
-    ChainCount::Bad(row::structural_fault(p))
+    Err(row::structural_fault(p))
 }
 
 // The cells of the run, of cells that end at e; a page without them is not written.
@@ -65,27 +49,20 @@ pub fn remove_along(pool: &mut [u8], used: u32, first: u32, key: u32)
     ensures { pool.new ≡ removed_along pool.old used first key used }
 {
     let mut p = first;
-    let mut left = used;
-    while 0 < left {
+    for _ in 0..used {
         if used <= p {
             return;
         }
-        let a = p as usize * PAGE_SIZE;
-        let z = a + PAGE_SIZE;
-        let next = page::get_next_leaf(&pool[a..z]);
-        match leaf::find::run_in_leaf(&pool[a..z], p, key) {
-            LeafRun::Bad(_) => return,
-            LeafRun::Ok(run, e, larger) => {
-                take_run(&mut pool[a..z], run, e);
-                if larger {
-                    return;
-                }
-                if next == 0 {
-                    return;
-                }
-                p = next;
-            }
+        let start = p as usize * PAGE_SIZE;
+        let pg = &mut pool[start..start + PAGE_SIZE];
+        let Ok((run, end, larger)) = leaf::find::run_in_leaf(pg, p, key) else {
+            return;
+        };
+        let next = page::get_next_leaf(pg);
+        take_run(pg, run, end);
+        if larger || next == 0 {
+            return;
         }
-        left -= 1;
+        p = next;
     }
 }

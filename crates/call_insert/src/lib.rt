@@ -5,155 +5,143 @@
 
 ghost use Rattle.std.specs.Prelude.{◌≡◌};
 ghost use Rattle.page.specs.Key.{rank_of};
-ghost use Rattle.call_answers.specs.Answer.{ended, of_stated};
+ghost use Rattle.call_answers.specs.Answer.{ended, outcome_of};
 ghost use Rattle.call_insert.specs.Insert.{version_ready, insert_version_run, insert_version_call, insert_ready, insert_run, insert_call};
-ghost use Rattle.mvcc.specs.Snapshot.{statuses};
 
-use call_answers::{BAD_DATA, BAD_POOL, BAD_STATUSES, Changed, Refusal, Stated};
-use mvcc::Current;
+use call_answers::{Refusal, Refused};
+use mvcc::Statuses;
 use page::pool::State;
-use row::{Pointer, Stamp};
+use row::{NewVersion, Pointer};
 use tree_insert::ready;
 use tree_insert::ready::Ready;
 
 // What insert version would do; it can be asked without storing.
+#[tactic(auto, unfolding(crate::specs::Insert::version_ready))]
 pub fn version_ready(
     pool: &[u8],
     st: State,
     key: u32,
     creator: u64,
-    stamp: Stamp,
-    pointer: Pointer,
+    stamp: Option<u64>,
+    pointer: Option<Pointer>,
     len: usize,
-) -> Ready
+) -> Result<Ready, Refused>
     ensures { result ≡ version_ready pool.now st key creator stamp pointer len }
 {
-    if page::pool::pool_is_good(pool, st) {
-        if row::MAX_DATA < len {
-            return ready::refused(BAD_DATA);
-        }
-        let m = row::write::cell_size(stamp, pointer, len);
-        return ready::version_at(pool, st, key, creator, m);
+    if !page::pool::pool_is_good(pool, st) {
+        return Err(Refusal::BadPool.into());
     }
-    ready::refused(BAD_POOL)
+    if row::MAX_DATA < len {
+        return Err(Refusal::BadData.into());
+    }
+    let m = row::write::cell_size(stamp, pointer, len);
+    ready::version_at(pool, st, key, creator, m)
 }
 
 // Insert version by rank, with the fault behind a BadTree.
+#[tactic(auto, unfolding(crate::specs::Insert::insert_version_run))]
 pub fn insert_version_at(
     pool: &mut [u8],
     st: State,
-    key: u32,
-    creator: u64,
-    stamp: Stamp,
-    pointer: Pointer,
-    body: &[u8],
-) -> Changed
-    ensures { ended result pool.new ≡ insert_version_run pool.old st key creator stamp pointer body.now }
+    version: &NewVersion<'_>,
+) -> Result<State, Refused>
+    ensures { ended result pool.new ≡ insert_version_run pool.old st version.now.key version.now.creator version.now.stamp version.now.pointer version.now.body }
 {
-    let told = version_ready(pool, st, key, creator, stamp, pointer, body.len());
-    let x = told.spot;
-    let plan = told.plan;
-    let fault = told.fault;
-    if told.ok {
-        return Changed::Done(tree_insert::store_insert(
-            pool, st, x, plan, key, creator, stamp, pointer, body,
-        ));
-    }
-    Changed::Refused(Refusal {
-        number: told.number,
-        fault,
-    })
+    let told = version_ready(
+        pool,
+        st,
+        version.key,
+        version.creator,
+        version.stamp,
+        version.pointer,
+        version.body.len(),
+    )?;
+    Ok(tree_insert::store_insert(pool, st, told.spot, told.plan, version))
 }
 
 // Insert version: a version as it is given, after equals of its key and creator; no version of the key refuses
 // it. Refused (BadPool, BadData, BadTree, Undividable, TooDeep, NoPages), it leaves the pool as it was.
+#[tactic(auto, unfolding(crate::specs::Insert::insert_version_call))]
 pub fn insert_version(
     pool: &mut [u8],
     st: State,
     key: i32,
     creator: u64,
-    stamp: Stamp,
-    pointer: Pointer,
+    stamp: Option<u64>,
+    pointer: Option<Pointer>,
     body: &[u8],
-) -> Stated
-    ensures { ended (of_stated result) pool.new ≡ insert_version_call pool.old st (rank_of key) creator stamp pointer body.now }
+) -> Result<State, Refusal>
+    ensures { ended (outcome_of result) pool.new ≡ insert_version_call pool.old st (rank_of key) creator stamp pointer body.now }
 {
-    let rank = page::key::rank_of(key);
-    call_answers::stated_of(insert_version_at(pool, st, rank, creator, stamp, pointer, body))
+    let version = NewVersion {
+        key: page::key::rank_of(key),
+        creator,
+        stamp,
+        pointer,
+        body,
+    };
+    Ok(insert_version_at(pool, st, &version)?)
 }
 
 // What insert would do; it can be asked without storing.
+#[tactic(auto, unfolding(crate::specs::Insert::insert_ready))]
 pub fn insert_ready(
     pool: &[u8],
     st: State,
     key: u32,
-    cur: Current,
-    ids: &[u64],
-    states: &[u8],
+    current: Option<u64>,
+    statuses: &Statuses<'_>,
     len: usize,
-) -> Ready
-    ensures { result ≡ insert_ready pool.now st key cur (statuses ids.now states.now) len }
+) -> Result<Ready, Refused>
+    ensures { result ≡ insert_ready pool.now st key current statuses.now len }
 {
-    if page::pool::pool_is_good(pool, st) {
-        if mvcc::lists::good_statuses(ids, states) {
-            if row::MAX_DATA < len {
-                return ready::refused(BAD_DATA);
-            }
-            let m = row::write::cell_size(Stamp::Absent, Pointer::Absent, len);
-            return ready::new_at(pool, st, key, cur, ids, states, m);
-        }
-        return ready::refused(BAD_STATUSES);
+    if !page::pool::pool_is_good(pool, st) {
+        return Err(Refusal::BadPool.into());
     }
-    ready::refused(BAD_POOL)
+    let statuses = statuses.judged().ok_or(Refusal::BadStatuses)?;
+    if row::MAX_DATA < len {
+        return Err(Refusal::BadData.into());
+    }
+    let m = row::write::cell_size(None, None, len);
+    ready::new_at(pool, st, key, current, &statuses, m)
 }
 
 // Insert by rank, with the fault behind a BadTree.
+#[tactic(auto, unfolding(crate::specs::Insert::insert_run))]
 pub fn insert_at(
     pool: &mut [u8],
     st: State,
     key: u32,
-    cur: Current,
-    ids: &[u64],
-    states: &[u8],
+    current: Option<u64>,
+    statuses: &Statuses<'_>,
     body: &[u8],
-) -> Changed
-    ensures { ended result pool.new ≡ insert_run pool.old st key cur (statuses ids.now states.now) body.now }
+) -> Result<State, Refused>
+    ensures { ended result pool.new ≡ insert_run pool.old st key current statuses.now body.now }
 {
-    let told = insert_ready(pool, st, key, cur, ids, states, body.len());
-    let x = told.spot;
-    let plan = told.plan;
-    let fault = told.fault;
-    if told.ok {
-        return Changed::Done(tree_insert::store_insert(
-            pool,
-            st,
-            x,
-            plan,
-            key,
-            mvcc::creator_of(cur),
-            Stamp::Absent,
-            Pointer::Absent,
-            body,
-        ));
-    }
-    Changed::Refused(Refusal {
-        number: told.number,
-        fault,
-    })
+    let told = insert_ready(pool, st, key, current, statuses, body.len())?;
+    let version = NewVersion {
+        key,
+        creator: mvcc::creator_of(current),
+        stamp: None,
+        pointer: None,
+        body,
+    };
+    Ok(tree_insert::store_insert(pool, st, told.spot, told.plan, &version))
 }
 
-// A live version by the caller's own transaction, if any, of a key that has none that it sees.
+// Insert: a live version by the caller's own transaction, if any, of a key that has none that it sees. Refused
+// (BadPool, BadStatuses, BadData, BadTree, Duplicate, Undividable, TooDeep, NoPages), it leaves the pool as it was.
+#[tactic(auto, unfolding(crate::specs::Insert::insert_call))]
 pub fn insert(
     pool: &mut [u8],
     st: State,
     key: i32,
-    cur: Current,
-    ids: &[u64],
-    states: &[u8],
+    current: Option<u64>,
+    statuses: &Statuses<'_>,
     body: &[u8],
-) -> Stated
-    ensures { ended (of_stated result) pool.new ≡ insert_call pool.old st (rank_of key) cur (statuses ids.now states.now) body.now }
+) -> Result<State, Refusal>
+    ensures { ended (outcome_of result) pool.new ≡ insert_call pool.old st (rank_of key) current statuses.now body.now }
 {
     let rank = page::key::rank_of(key);
-    call_answers::stated_of(insert_at(pool, st, rank, cur, ids, states, body))
+    Ok(insert_at(pool, st, rank, current, statuses, body)?)
 }

@@ -1,5 +1,6 @@
 -- What the reading calls say of a tree whose one page is an empty leaf, and that create makes such a tree (document 01,
 -- section 8: P1); of two visible versions with one key and one creator the listing has the first (P9). Assumes nothing.
+use Rattle.std.proofs.Common.{Option, None, Ok}
 use mathlib.Core.Path.{◌≡◌, refl, sym, ap, ◌∙◌}
 use mathlib.Core.Bool.{Bool, true, false, ◌&&◌}
 use mathlib.Core.List.{List, [], map}
@@ -16,30 +17,23 @@ use Rattle.page.specs.Pool.{good_pool, next_page, allocated, with_fresh}
 use Rattle.page.specs.declared.pool.State.{State}
 use Rattle.mvcc.specs.Snapshot.{lookup, good_statuses, Snapshot, Statuses, good_snapshot, snapshot, no_statuses}
 use Rattle.mvcc.specs.Lists.{rising, good_active}
-use Rattle.mvcc.specs.declared.Current.{Current}
 use Rattle.leaf.specs.Cells.{cells, fold_cells, judge_cells, judge_leaf, has_larger}
 use Rattle.leaf.specs.Find.{find_leaf, test_leaf}
 use Rattle.leaf.specs.Rows.{row_of, rows}
-use Rattle.leaf.specs.declared.Judged.{Judged}
-use Rattle.leaf.specs.declared.find.Best.{Best}
 use Rattle.tree.specs.Create.{rooted, created_pool}
 use Rattle.tree.specs.Descend.{descend_of}
-use Rattle.tree.specs.Chain.{Seen, go, ok, along, look_best, best_along, look_test, test_along}
-use Rattle.tree_check.specs.Check.{cells_within, sound_leaf, is_well_formed}
-use Rattle.tree_check.specs.Steps.Check.{check_of, is_first}
+use Rattle.tree.specs.Chain.{Seen, go, along, look_best, best_along, look_test, test_along}
 use Rattle.tree.specs.Lookup.{best_in_tree, test_in_tree}
 use Rattle.tree.specs.declared.Route.{Route}
-use Rattle.tree.specs.declared.Descent.{Descent}
-use Rattle.tree.specs.declared.ChainBest.{ChainBest}
-use Rattle.tree.specs.declared.ChainTest.{ChainTest}
+use Rattle.tree_check.specs.Check.{cells_within, sound_leaf, is_well_formed}
+use Rattle.tree_check.specs.Steps.Check.{check_of, is_first}
 use Rattle.list_records.specs.Records.{records}
 use Rattle.list_records.specs.Listed.{fitted}
-use Rattle.call_answers.specs.Answer.{written, refused, done}
-use Rattle.list_records.specs.declared.Listing.{Listing}
 use Rattle.list_versions.specs.Gather.{look_rows, rows_along}
 use Rattle.list_versions.specs.Listed.{route_of, list_tree}
 use Rattle.list_versions.specs.declared.Which.{Which}
 use Rattle.list_visible.specs.Visible.{look_all, chain_rows, visible_rows, entered_row, newest_each, scan_rows, scan_tree}
+use Rattle.call_answers.specs.Answer.{written, refused, done}
 use Rattle.call_read.specs.Create.{create_call, has_page}
 use Rattle.call_read.specs.Find.{find_visible_run, find_visible_call, find_call}
 use Rattle.call_read.specs.Conflict.{conflict_call}
@@ -49,12 +43,12 @@ use Rattle.call_read.specs.Scan.{scan_run, scan_visible_call}
 use Rattle.call_read.specs.Facts.{EmptyTree, CreateIsEmpty, TieToFirst}
 use Rattle.store.proofs.LeLaws.{length-put_at}
 use Rattle.store.proofs.PutLaws.{put_nil}
+use Rattle.store.proofs.Tests.{and_both}
 use Rattle.page.proofs.PageLaws.{length-set_page, page-set_page}
 use Rattle.page.proofs.PoolLaws.{pool-is, pool_in_use}
-use Rattle.tree.proofs.Ways.{way_leaf, along-end}
+use Rattle.tree.proofs.Ways.{way_leaf, leaf_here, along-end}
 use Rattle.tree_check.proofs.Linking.{check-is_well}
 use Rattle.list_visible.proofs.Writing.{cells-none}
-use Rattle.store.proofs.Tests.{and_both}
 
 -- ---- the page
 
@@ -83,14 +77,14 @@ module _ {pg : List ℕ} (e : Empty pg) where
   empty_rows : rows pg ≡ []
   empty_rows = ap (map (row_of pg)) empty_cells
 
-  pub empty_judged : (p : ℕ) → judge_leaf pg p ≡ Judged.Ok 12
+  pub empty_judged : (p : ℕ) → judge_leaf pg p ≡ Ok 12
   unfolding judge_leaf judge_cells
   empty_judged p = rw (e.leaf, e.count)
 
 -- ---- the tree
 
 -- a listing of no rows: 0 bytes, and the output as it was
-none-fitted : (out : List ℕ) → fitted (records []) out ≡ written (Listing.Done 0) out
+none-fitted : (out : List ℕ) → fitted (records []) out ≡ written (Ok 0) out
 unfolding fitted records
 none-fitted out = rw (le-leb 0 (length out) (omega arith), put_nil 0 out)
 
@@ -100,11 +94,11 @@ pub record Alone (used root : ℕ) (s : List ℕ) : Type 0 where
   pub empty : Empty (page s root)
 
 module _ {used root : ℕ} {s : List ℕ} (t : Alone used root s) where
-  pub comes_to : (route : Route) → descend_of s used root route 3 ≡ Descent.Leaf root
-  comes_to route = sym (way_leaf route used root s t.in_use refl refl 3 t.empty.leaf)
+  pub comes_to : (route : Route) → descend_of s used root route 3 ≡ Ok root
+  comes_to route = sym (way_leaf s used root (leaf_here s used root t.in_use t.empty.leaf) route refl 3 refl)
 
   -- a walk ends where it starts, with what it started with
-  stays : {A : Type 0} (look : A → ℕ → List ℕ → Seen A) (a : A) → look a root (page s root) ≡ go a → along s used root look used a ≡ ok a
+  stays : {A : Type 0} (look : A → ℕ → List ℕ → Seen A) (a : A) → look a root (page s root) ≡ go a → along s used root look used a ≡ Ok a
   stays look a e = sym (along-end look used a root s t.in_use refl used (omega (arith, t.in_use)) e refl t.empty.next)
 
   is_well : is_well_formed s used root ≡ true
@@ -115,19 +109,19 @@ module _ {used root : ℕ} {s : List ℕ} (t : Alone used root s) where
       rw (sym (check-is_well 0 used root s) ∙ first)
 
   module _ (sn : Snapshot) (st : ℕ → ℕ) where
-    best_none : (key : ℕ) → best_in_tree s used root key sn st ≡ ChainBest.Ok Best.Nothing
+    best_none : (key : ℕ) → best_in_tree s used root key sn st ≡ Ok None
     unfolding best_in_tree best_along find_leaf fold_cells has_larger
     best_none key =
-        let here : look_best key sn st Best.Nothing root (page s root) ≡ go Best.Nothing = rw (empty_judged t.empty root, empty_cells t.empty) in
-        rw (comes_to (Route.Search key), stays (look_best key sn st) Best.Nothing here)
+        let here : look_best key sn st None root (page s root) ≡ go None = rw (empty_judged t.empty root, empty_cells t.empty) in
+        rw (comes_to (Route.Search key), stays (look_best key sn st) None here)
 
-    test_none : (claiming : Bool) (seen key : ℕ) → test_in_tree s used root key sn st claiming seen ≡ ChainTest.Ok false
+    test_none : (claiming : Bool) (seen key : ℕ) → test_in_tree s used root key sn st claiming seen ≡ Ok false
     unfolding test_in_tree test_along test_leaf fold_cells has_larger
     test_none claiming seen key =
         let here : look_test key sn st claiming seen false root (page s root) ≡ go false = rw (empty_judged t.empty root, empty_cells t.empty) in
         rw (comes_to (Route.Search key), stays (look_test key sn st claiming seen) false here)
 
-  list_none : (w : Which) (out : List ℕ) → list_tree s used root w out ≡ written (Listing.Done 0) out
+  list_none : (w : Which) (out : List ℕ) → list_tree s used root w out ≡ written (Ok 0) out
   unfolding list_tree rows_along fold_cells has_larger
   list_none w out = rw (comes_to (route_of w), stays (look_rows w) [] (here w)) (none-fitted out)
     where
@@ -135,7 +129,7 @@ module _ {used root : ℕ} {s : List ℕ} (t : Alone used root s) where
       here Which.All = rw (empty_judged t.empty root, empty_rows t.empty)
       here (Which.Key key) = rw (empty_judged t.empty root, empty_cells t.empty)
 
-  scan-none : (sn : Snapshot) (st : ℕ → ℕ) (out : List ℕ) → scan_tree s used root sn st out ≡ written (Listing.Done 0) out
+  scan-none : (sn : Snapshot) (st : ℕ → ℕ) (out : List ℕ) → scan_tree s used root sn st out ≡ written (Ok 0) out
   unfolding scan_tree chain_rows scan_rows visible_rows newest_each
   scan-none sn st out =
       let here : look_all [] root (page s root) ≡ go [] = rw (empty_judged t.empty root, empty_rows t.empty) in
@@ -153,7 +147,7 @@ module _ (s : List ℕ) (st : State) (good : good_pool s st ≡ true) (t : Alone
   unfolding find_visible_call find_visible_run
   absent key sn ss a b = rw (good, a, b, best_none t sn (lookup ss) key)
 
-  plainly_absent : (key : ℕ) (cur : Current) (ss : Statuses) → good_statuses ss ≡ true → find_call s st key cur ss ≡ refused 8
+  plainly_absent : (key : ℕ) (cur : Option ℕ) (ss : Statuses) → good_statuses ss ≡ true → find_call s st key cur ss ≡ refused 8
   unfolding find_call good_active rising
   plainly_absent key cur ss = absent key (snapshot _ [] cur) ss refl
 

@@ -1,16 +1,15 @@
 -- What the cases of document 01, section 8, ask of the reading calls: P1, the empty tree, and the listing's half of P9 (the
 -- lookup's half is leaf/FindFacts: LookupChooses).
-use Rattle.std.specs.Prelude.{◌≡◌, true, false, List, [], ◌∷◌, ℕ}
-use Rattle.call_answers.specs.Names.{Absent}
+use Rattle.std.specs.Prelude.{Option, ◌≡◌, true, false, List, [], ◌∷◌, ℕ}
 use Rattle.page.specs.Pool.{good_pool}
 use Rattle.page.specs.declared.pool.State.{State}
 use Rattle.mvcc.specs.Snapshot.{good_statuses, Snapshot, Statuses, good_snapshot}
 use Rattle.mvcc.specs.Rules.{visible}
-use Rattle.mvcc.specs.declared.Current.{Current}
 use Rattle.leaf.specs.Rows.{Row}
 use Rattle.tree.specs.Create.{rooted}
-use Rattle.call_answers.specs.Answer.{written, refused, done}
 use Rattle.list_visible.specs.Visible.{scan_rows}
+use Rattle.call_answers.specs.Names.{Absent}
+use Rattle.call_answers.specs.Answer.{written, refused, done}
 use Rattle.call_read.specs.Create.{create_call, has_page}
 use Rattle.call_read.specs.Find.{find_visible_call, find_call}
 use Rattle.call_read.specs.Conflict.{conflict_call}
@@ -23,7 +22,7 @@ pub record EmptyTree (s : List ℕ) (st : State) : Type 0 where
   pub checked : check_call s st ≡ done true
   pub absent : (key : ℕ) (sn : Snapshot) (ss : Statuses) → good_snapshot sn ≡ true → good_statuses ss ≡ true
       → find_visible_call s st key sn ss ≡ refused Absent
-  pub plainly_absent : (key : ℕ) (cur : Current) (ss : Statuses) → good_statuses ss ≡ true → find_call s st key cur ss ≡ refused Absent
+  pub plainly_absent : (key : ℕ) (cur : Option ℕ) (ss : Statuses) → good_statuses ss ≡ true → find_call s st key cur ss ≡ refused Absent
   pub no_conflict : (key seen : ℕ) (sn : Snapshot) → good_snapshot sn ≡ true → conflict_call s st key sn seen ≡ done false
   pub none_of_key : (key : ℕ) (out : List ℕ) → versions_of_call s st key out ≡ written (done 0) out
   pub none : (out : List ℕ) → all_versions_call s st out ≡ written (done 0) out

@@ -1,3 +1,2 @@
--- Laws of `call_stamp` for its own proofs.
+-- Laws of the calls that stamp.
 pub mod Stamping
-pub mod Calls

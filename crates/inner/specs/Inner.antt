@@ -1,11 +1,11 @@
 -- An internal page (document 01, section 2): a child, then per key a signed key and a child; its keys and children as
 -- lists, and its judgement (section 3: "1 to 510 non-decreasing keys").
-use Rattle.std.specs.Prelude.{Bool, true, ◌&&◌, List, [], ◌∷◌, ℕ, zero, suc, ◌+◌, ◌*◌, leb, eqb}
+use Rattle.std.specs.Prelude.{Result, Ok, Err, Bool, true, ◌&&◌, List, [], ◌∷◌, ℕ, zero, suc, ◌+◌, ◌*◌, leb, eqb}
+use Rattle.row.specs.declared.Fault.{Fault}
 use Rattle.store.specs.Pick.{pick}
 use Rattle.store.specs.Le.{le_at}
 use Rattle.page.specs.Header.{node_type, cell_count, header_size, node_internal}
 use Rattle.page.specs.Key.{rank_at}
-use Rattle.inner.specs.declared.InnerJudged.{InnerJudged}
 use Rattle.row.specs.Fault.{structural}
 
 -- "At most 510 keys"
@@ -40,8 +40,8 @@ never_falls x [] = true
 never_falls x (y ∷ ys) = leb x y && never_falls y ys
 
 -- page p with the bytes pg: how many keys it has, or its fault. A rank is never below 0.
-unfoldable pub judge_inner : List ℕ → ℕ → InnerJudged
+unfoldable pub judge_inner : List ℕ → ℕ → Result ℕ Fault
 judge_inner pg p =
     pick (eqb (node_type pg) node_internal && (leb 1 (cell_count pg) && (leb (cell_count pg) max_keys && never_falls 0 (keys_of pg))))
-    (InnerJudged.Ok (cell_count pg))
-    (InnerJudged.Bad (structural p))
+    (Ok (cell_count pg))
+    (Err (structural p))

@@ -15,13 +15,6 @@ pub const MAX_CHILDREN: usize = 511;
 
 pub const FULL: u16 = 510;
 
-// How many keys the page has, or its fault.
-#[derive(Clone, Copy)]
-pub enum InnerJudged {
-    Ok(usize),
-    Bad(Fault),
-}
-
 // Key i of the page, by its rank: the separator between children i and i + 1.
 pub fn key_at(pg: &[u8], i: usize) -> u32
     requires { (i < 510) × (length pg.now ≡ 4096) }
@@ -44,37 +37,35 @@ fn never_falls(pg: &[u8], n: usize) -> bool
     ensures { result ≡ never_falls 0 (keys_from pg.now 0 n) }
 {
     let mut ok = true;
-    let mut last: u32 = 0;
-    let mut i = 0;
-    while i < n {
-        let k = key_at(pg, i);
-        ok = ok & (last <= k);
-        last = k;
-        i += 1;
+    let mut last = 0;
+    for i in 0..n {
+        let key = key_at(pg, i);
+        ok &= last <= key;
+        last = key;
     }
     ok
 }
 
 // How many keys page p has, if it is internal, with 1 to 510 keys that never fall; otherwise its fault.
-pub fn judge_inner(pg: &[u8], p: u32) -> InnerJudged
+pub fn judge_inner(pg: &[u8], p: u32) -> Result<usize, Fault>
     requires { length pg.now ≡ 4096 }
     ensures { result ≡ judge_inner pg.now p }
 {
     let bad = row::structural_fault(p);
     let n = page::get_cell_count(pg) as usize;
     if page::get_node_type(pg) != page::NODE_INTERNAL {
-        return InnerJudged::Bad(bad);
+        return Err(bad);
     }
     if n < 1 {
-        return InnerJudged::Bad(bad);
+        return Err(bad);
     }
     if MAX_KEYS < n {
-        return InnerJudged::Bad(bad);
+        return Err(bad);
     }
     if never_falls(pg, n) {
-        return InnerJudged::Ok(n);
+        return Ok(n);
     }
-    InnerJudged::Bad(bad)
+    Err(bad)
 }
 
 // The first of the n keys that is at least the bound, by halves: the keys never fall.
@@ -82,18 +73,9 @@ fn first_from(pg: &[u8], n: usize, bound: u64) -> usize
     requires { (n ≤ 510) × (length pg.now ≡ 4096) × (never_falls 0 (keys_from pg.now 0 n) ≡ true) }
     ensures { (result ≡ first_where (leb bound) (keys_from pg.now 0 n)) × (result ≤ n) }
 {
-    let mut lo = 0;
-    let mut hi = n;
-    while lo < hi {
-        let mid = lo + (hi - lo) / 2;
-        let k = key_at(pg, mid) as u64;
-        if k < bound {
-            lo = mid + 1;
-        } else {
-            hi = mid;
-        }
-    }
-    lo
+    // A pair is a key and the child after it.
+    let (pairs, _) = pg[16..16 + 8 * n].as_chunks::<8>();
+    pairs.partition_point(|pair| (page::key::get_rank(pair, 0) as u64) < bound)
 }
 
 // The place of the child that search goes to: left on key ≤ separator.
@@ -117,12 +99,10 @@ pub fn child_place(pg: &[u8], n: usize, child: u32) -> usize
     requires { (n ≤ 511) × (length pg.now ≡ 4096) }
     ensures { (result ≡ child_place child (children_from pg.now 0 n)) × (result ≤ n) }
 {
-    let mut i = 0;
-    while i < n {
+    for i in 0..n {
         if child_at(pg, i) == child {
             return i;
         }
-        i += 1;
     }
-    i
+    n
 }

@@ -15,8 +15,6 @@ pub const KEPT_KEYS: usize = 255;
 
 pub const KEPT_CHILDREN: usize = 256;
 
-const KEPT_COUNT: u16 = 255;
-
 const KEPT_END: usize = 2056;
 
 const MOVED_START: usize = 2060;
@@ -86,13 +84,9 @@ pub fn adopt(pool: &mut [u8], n: usize, i: usize, p: u32, q: u32)
     requires { (i + n ≤ 511) × (p * 4096 + 4096 ≤ length pool.old) × AdoptSafe n i p q pool.old }
     ensures { pool.new ≡ adopted n i p q pool.old }
 {
-    let mut left = n;
-    let mut k = i;
-    while 0 < left {
+    for k in i..i + n {
         let c = inner::child_at(page::pool::page_of(pool, p), k);
         adopt_one(pool, c, q);
-        k += 1;
-        left -= 1;
     }
 }
 
@@ -102,7 +96,7 @@ fn middle_key(pg: &[u8], i: usize, sep: u32) -> u32
     ensures { (child : ℕ) → result ≡ middle_key i sep child pg.now }
 {
     if i < KEPT_KEYS {
-        return inner::key_at(pg, 254);
+        return inner::key_at(pg, KEPT_KEYS - 1);
     }
     if i == KEPT_KEYS {
         return sep;
@@ -120,7 +114,12 @@ fn carry_around(pool: &mut [u8], p: u32, q: u32, i: usize, sep: u32, child: u32)
     let k = 8 * (i - KEPT_CHILDREN) + 4;
     store::run::shift(pool, from + MOVED_START, to, k);
     put_pair(pool, to + k, sep, child);
-    store::run::shift(pool, from + MOVED_START + k, to + k + 8, 2036 - k);
+    store::run::shift(
+        pool,
+        from + MOVED_START + k,
+        to + k + 8,
+        MOVED_BYTES - 8 - k,
+    );
 }
 
 // The same bytes, wherever the pair stands. They go by offsets into the pool, since they lie in one page and go to another.
@@ -131,10 +130,10 @@ fn carry(pool: &mut [u8], p: u32, q: u32, i: usize, sep: u32, child: u32)
     let from = p as usize * page::PAGE_SIZE;
     let to = q as usize * page::PAGE_SIZE + page::HEADER_SIZE;
     if i < KEPT_KEYS {
-        store::run::shift(pool, from + 2052, to, MOVED_BYTES);
+        store::run::shift(pool, from + (MOVED_START - 8), to, MOVED_BYTES);
     } else if i == KEPT_KEYS {
         store::put32(pool, to, child);
-        store::run::shift(pool, from + KEPT_END, to + 4, 2040);
+        store::run::shift(pool, from + KEPT_END, to + 4, MOVED_BYTES - 4);
     } else {
         carry_around(pool, p, q, i, sep, child);
     }
@@ -147,7 +146,7 @@ fn right_half(pool: &mut [u8], p: u32, q: u32, i: usize, sep: u32, child: u32)
     carry(pool, p, q, i, sep, child);
     let a = q as usize * page::PAGE_SIZE;
     let e = a + page::PAGE_SIZE;
-    finish(&mut pool[a..e], KEPT_END, KEPT_COUNT);
+    finish(&mut pool[a..e], KEPT_END, KEPT_KEYS as u16);
 }
 
 // The first 2056 bytes of the page with the pair entered; they are as they were where the pair stands after them.
@@ -156,7 +155,7 @@ fn keep(pg: &mut [u8], i: usize, sep: u32, child: u32)
     ensures { pg.new ≡ put 0 (part 0 2056 (entered i sep child pg.old)) pg.old }
 {
     if i < KEPT_KEYS {
-        open_pair(pg, 16 + 8 * i, 2048, sep, child);
+        open_pair(pg, 16 + 8 * i, KEPT_END - 8, sep, child);
     }
 }
 
@@ -165,7 +164,7 @@ fn left_half(pg: &mut [u8], i: usize, sep: u32, child: u32)
     ensures { pg.new ≡ left_half i sep child pg.old }
 {
     keep(pg, i, sep, child);
-    finish(pg, KEPT_END, KEPT_COUNT);
+    finish(pg, KEPT_END, KEPT_KEYS as u16);
 }
 
 // Page p with 510 keys and the pair after child i: 255 keys stay, 255 go to page q, and the key between them is the answer.

@@ -1,5 +1,7 @@
 -- The cells of a leaf are a chain, each standing where the one before it ends; of a judged leaf all are there, in order,
 -- and a chain that is split splits the page's bytes. Assumes nothing.
+use Rattle.row.specs.declared.CellFault.{CellFault}
+use Rattle.std.proofs.Common.{Result, Ok, Err}
 use mathlib.Core.Path.{◌≡◌, refl, sym, ap, ◌∙◌, subst}
 use mathlib.Core.Bool.{Bool, true, false}
 use mathlib.Core.List.{List, [], ◌∷◌, ◌++◌, map}
@@ -13,12 +15,10 @@ use Rattle.store.specs.Part.{part}
 use Rattle.page.specs.Header.{node_type, cell_count}
 use Rattle.row.specs.Read.{cell_at}
 use Rattle.row.specs.declared.Cell.{Cell}
-use Rattle.row.specs.declared.read.CellRead.{CellRead}
 use Rattle.leaf.specs.Cells.{Step, on_cell, cells_of, cells, in_order, step_of, on_step, judge_cells, judge_leaf}
 use Rattle.row.specs.Fault.{structural}
 use Rattle.leaf.specs.Rows.{AllFit, row_of, rows_bytes}
 use Rattle.leaf.specs.RowFacts.{Sound}
-use Rattle.leaf.specs.declared.Judged.{Judged}
 use Rattle.store.proofs.PartLaws.{length_part, part_add}
 use Rattle.row.proofs.Exact.{read_is-written, cell_placed}
 use Rattle.leaf.proofs.Walking.{step-cell}
@@ -29,7 +29,7 @@ use Rattle.leaf.proofs.Rowing.{end_of, rows-bytes}
 -- cells that stand one after another from `at` on
 abbrev pub Chain : List ℕ → ℕ → List Cell → Type 0
 Chain s at [] = Unit
-Chain s at (c ∷ cs) = (cell_at s at ≡ CellRead.Got c) × Chain s c.next cs
+Chain s at (c ∷ cs) = (cell_at s at ≡ Ok c) × Chain s c.next cs
 
 module _ (s : List ℕ) where
   pub chain-cells : (n at : ℕ) → Chain s at (cells_of s n at)
@@ -37,9 +37,9 @@ module _ (s : List ℕ) where
   chain-cells zero at = tt
   chain-cells (suc n) at = by_read (cell_at s at) refl (λ c. chain-cells n c.next)
     where
-      by_read : (r : CellRead) → cell_at s at ≡ r → ((c : Cell) → Chain s c.next (cells_of s n c.next)) → Chain s at (on_cell (λ c. c ∷ cells_of s n c.next) (λ kind. []) r)
-      by_read (CellRead.Bad kind) e ih = tt
-      by_read (CellRead.Got c) e ih = (e, ih c)
+      by_read : (r : Result Cell CellFault) → cell_at s at ≡ r → ((c : Cell) → Chain s c.next (cells_of s n c.next)) → Chain s at (on_cell (λ c. c ∷ cells_of s n c.next) (λ kind. []) r)
+      by_read (Err kind) e ih = tt
+      by_read (Ok c) e ih = (e, ih c)
 
   pub chain_back : (at : ℕ) (cs : List Cell) → Chain s at cs → cells_of s (length cs) at ≡ cs
   unfolding cells_of
@@ -110,14 +110,14 @@ pub record AllThere (s : List ℕ) (k c n at e : ℕ) : Type 0 where
   pub end : end_of at (cells_of s n at) ≡ e
   pub rising : Rising k c (cells_of s n at)
 
-pub judged_all : (s : List ℕ) (p k c n at e : ℕ) → judge_cells s p k c n at ≡ Judged.Ok e → AllThere s k c n at e
+pub judged_all : (s : List ℕ) (p k c n at e : ℕ) → judge_cells s p k c n at ≡ Ok e → AllThere s k c n at e
 unfolding judge_cells cells_of end_of
 judged_all s p k c zero at e h = record { count = refl; end = cc; rising = tt }
 judged_all s p k c (suc n) at e h = by_step (step_of s p k c at) refl (λ x. judged_all s p x.key x.version.creator n x.next e) h
   where
     by_step : (r : Step) → step_of s p k c at ≡ r
-        → ((x : Cell) → judge_cells s p x.key x.version.creator n x.next ≡ Judged.Ok e → AllThere s x.key x.version.creator n x.next e)
-        → on_step (λ x. judge_cells s p x.key x.version.creator n x.next) (λ f. Judged.Bad f) r ≡ Judged.Ok e → AllThere s k c (suc n) at e
+        → ((x : Cell) → judge_cells s p x.key x.version.creator n x.next ≡ Ok e → AllThere s x.key x.version.creator n x.next e)
+        → on_step (λ x. judge_cells s p x.key x.version.creator n x.next) (λ f. Err f) r ≡ Ok e → AllThere s k c (suc n) at e
     by_step (Step.Bad f) q ih w = absurd (let z : ◌≡◌ {A = ℕ} 0 1 = cc in omega arith)
     by_step (Step.Got x) q ih w =
         let t = step-cell s p k c at (sym q) refl in
@@ -125,11 +125,11 @@ judged_all s p k c (suc n) at e h = by_step (step_of s p k c at) refl (λ x. jud
         let u : cells_of s (suc n) at ≡ x ∷ cells_of s n x.next = rw t.0 in
         record { count = rw u (ap suc i.count); end = rw u i.end; rising = rw u (t.1, i.rising) }
 
-pub judged-leaf : (p : ℕ) (pg : List ℕ) (e : ℕ) → judge_leaf pg p ≡ Judged.Ok e → AllThere pg 0 0 (cell_count pg) 12 e
+pub judged-leaf : (p : ℕ) (pg : List ℕ) (e : ℕ) → judge_leaf pg p ≡ Ok e → AllThere pg 0 0 (cell_count pg) 12 e
 unfolding judge_leaf
 judged-leaf p pg e h = by_type (eqb (node_type pg) 1) h
   where
-    by_type : (b : Bool) → pick b (judge_cells pg p 0 0 (cell_count pg) 12) (Judged.Bad (structural p)) ≡ Judged.Ok e → AllThere pg 0 0 (cell_count pg) 12 e
+    by_type : (b : Bool) → pick b (judge_cells pg p 0 0 (cell_count pg) 12) (Err (structural p)) ≡ Ok e → AllThere pg 0 0 (cell_count pg) 12 e
     by_type true w = judged_all pg p 0 0 (cell_count pg) 12 e w
     by_type false w = absurd (let z : ◌≡◌ {A = ℕ} 0 1 = cc in omega arith)
 

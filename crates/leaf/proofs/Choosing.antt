@@ -1,5 +1,6 @@
 -- The facts of specs/FindFacts: a lookup's walk chooses the largest creator, the last on a tie, and a judgement's yes is
 -- the same for any page number. Assumes nothing.
+use Rattle.std.proofs.Common.{Some, None, Ok, Err}
 use mathlib.Core.Path.{◌≡◌, refl, sym}
 use mathlib.Core.Bool.{Bool, true, false, ◌&&◌}
 use mathlib.Core.List.{List, [], ◌∷◌, ◌++◌, append_assoc, append-nil}
@@ -13,10 +14,8 @@ use Rattle.page.specs.Header.{node_type, cell_count}
 use Rattle.row.specs.declared.Cell.{Cell}
 use Rattle.leaf.specs.Cells.{Step, fold_cells, step_of, on_step, judge_cells, judge_leaf}
 use Rattle.row.specs.Fault.{structural}
-use Rattle.leaf.specs.Find.{later, newest}
+use Rattle.leaf.specs.Find.{later, newest, Best}
 use Rattle.leaf.specs.FindFacts.{Candidate, EachCandidate, ChosenCell, ChosenBy, LookupChooses, AnyPage}
-use Rattle.leaf.specs.declared.find.Best.{Best}
-use Rattle.leaf.specs.declared.Judged.{Judged}
 use Rattle.mvcc.specs.Snapshot.{Snapshot}
 use Rattle.leaf.proofs.Walking.{step-cell, step_in}
 
@@ -83,14 +82,14 @@ module _ (sn : Snapshot) (st : ℕ → ℕ) (key : ℕ) where
 
     -- one step of the walk
     passed : (cs : List Cell) (best : Best) (c : Cell) → (Seen c → ⊥) → By cs best → By (cs ++ (c ∷ [])) best
-    passed cs Best.Nothing c z b = each_append (λ x. ⊥) cs (c ∷ []) b (z, tt)
-    passed cs (Best.At q o) c z b = (b.0, stays cs o c b.1 (λ s. absurd (z s)))
+    passed cs None c z b = each_append (λ x. ⊥) cs (c ∷ []) b (z, tt)
+    passed cs (Some (q, o)) c z b = (b.0, stays cs o c b.1 (λ s. absurd (z s)))
 
     taken : (cs : List Cell) (best : Best) (c : Cell) → Seen c → By cs best → By (cs ++ (c ∷ [])) (later p best c)
-    taken cs Best.Nothing c s b = (refl, displaces cs c s (each_weaker (λ x. ⊥) (λ x. x.version.creator ≤ c.version.creator) (λ x z. absurd z) cs b))
-    taken cs (Best.At q o) c s b = by_creator (ltb c.version.creator o.version.creator) refl
+    taken cs None c s b = (refl, displaces cs c s (each_weaker (λ x. ⊥) (λ x. x.version.creator ≤ c.version.creator) (λ x z. absurd z) cs b))
+    taken cs (Some (q, o)) c s b = by_creator (ltb c.version.creator o.version.creator) refl
       where
-        by_creator : (t : Bool) → ltb c.version.creator o.version.creator ≡ t → By (cs ++ (c ∷ [])) (pick t (Best.At q o) (Best.At p c))
+        by_creator : (t : Bool) → ltb c.version.creator o.version.creator ≡ t → By (cs ++ (c ∷ [])) (pick t (Some (q, o)) (Some (p, c)))
         by_creator true e = (b.0, stays cs o c b.1 (λ z. ltb-true _ _ e))
         by_creator false e = (refl, displaces cs c s (below cs o c b.1 (ltb-false _ _ e)))
 
@@ -108,18 +107,18 @@ module _ (sn : Snapshot) (st : ℕ → ℕ) (key : ℕ) where
     walk_chooses (c ∷ rest) cs best b = rw append_assoc at (walk_chooses rest (cs ++ (c ∷ [])) (newest p key sn st best c) (step cs best c b))
 
 pub lookup_chooses : LookupChooses
-lookup_chooses sn st p key cs = walk_chooses sn st key p cs [] Best.Nothing tt
+lookup_chooses sn st p key cs = walk_chooses sn st key p cs [] None tt
 
 -- ---- any page number
 
-cells_any : (p q e : ℕ) (s : List ℕ) (k c n at : ℕ) → judge_cells s p k c n at ≡ Judged.Ok e → judge_cells s q k c n at ≡ Judged.Ok e
+cells_any : (p q e : ℕ) (s : List ℕ) (k c n at : ℕ) → judge_cells s p k c n at ≡ Ok e → judge_cells s q k c n at ≡ Ok e
 unfolding judge_cells
 cells_any p q e s k c zero at j = j
 cells_any p q e s k c (suc n) at j = by_step (step_of s p k c at) refl j (λ x. cells_any p q e s x.key x.version.creator n x.next)
   where
-    by_step : (r : Step) → step_of s p k c at ≡ r → on_step (λ x. judge_cells s p x.key x.version.creator n x.next) (λ f. Judged.Bad f) r ≡ Judged.Ok e
-        → ((x : Cell) → judge_cells s p x.key x.version.creator n x.next ≡ Judged.Ok e → judge_cells s q x.key x.version.creator n x.next ≡ Judged.Ok e)
-        → on_step (λ x. judge_cells s q x.key x.version.creator n x.next) (λ f. Judged.Bad f) (step_of s q k c at) ≡ Judged.Ok e
+    by_step : (r : Step) → step_of s p k c at ≡ r → on_step (λ x. judge_cells s p x.key x.version.creator n x.next) (λ f. Err f) r ≡ Ok e
+        → ((x : Cell) → judge_cells s p x.key x.version.creator n x.next ≡ Ok e → judge_cells s q x.key x.version.creator n x.next ≡ Ok e)
+        → on_step (λ x. judge_cells s q x.key x.version.creator n x.next) (λ f. Err f) (step_of s q k c at) ≡ Ok e
     by_step (Step.Bad f) t j ih = absurd (let z : ◌≡◌ {A = ℕ} 0 1 = cc in omega arith)
     by_step (Step.Got x) t j ih = let u = step-cell s p k c at (sym t) refl in rw (← step_in s q k c at (sym u.0) refl (sym u.1) refl) (ih x j)
 
@@ -127,7 +126,7 @@ pub any_page : AnyPage
 unfolding judge_leaf
 any_page p q e pg j = by_type (eqb (node_type pg) 1) j
   where
-    by_type : (b : Bool) → pick b (judge_cells pg p 0 0 (cell_count pg) 12) (Judged.Bad (structural p)) ≡ Judged.Ok e
-        → pick b (judge_cells pg q 0 0 (cell_count pg) 12) (Judged.Bad (structural q)) ≡ Judged.Ok e
+    by_type : (b : Bool) → pick b (judge_cells pg p 0 0 (cell_count pg) 12) (Err (structural p)) ≡ Ok e
+        → pick b (judge_cells pg q 0 0 (cell_count pg) 12) (Err (structural q)) ≡ Ok e
     by_type true i = cells_any p q e pg 0 0 (cell_count pg) 12 i
     by_type false i = absurd (let z : ◌≡◌ {A = ℕ} 0 1 = cc in omega arith)

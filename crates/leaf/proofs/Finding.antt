@@ -1,5 +1,7 @@
 -- What a loop over a leaf answers at its end, said of the judgement and the fold: one set of laws for every loop that
 -- looks for something. Assumes nothing.
+use Rattle.row.specs.declared.CellFault.{CellFault}
+use Rattle.std.proofs.Common.{Some, None, Result, Ok, Err}
 use mathlib.Core.Path.{◌≡◌, refl, sym, ap, ◌∙◌}
 use mathlib.Core.Bool.{Bool, true, false, ◌&&◌, ◌||◌}
 use mathlib.Core.List.{List, [], ◌∷◌}
@@ -10,16 +12,13 @@ use lib.Dec.{ltb, leb, eqb}
 use Rattle.page.specs.Header.{node_type, cell_count}
 use Rattle.row.specs.Read.{cell_at}
 use Rattle.row.specs.declared.Cell.{Cell}
-use Rattle.row.specs.declared.read.CellRead.{CellRead}
 use Rattle.row.specs.declared.Fault.{Fault}
 use Rattle.leaf.specs.Cells.{Step, on_cell, cells_of, cells, fold_cells, in_order, step_of, on_step, judge_cells, judge_leaf, on_judged, has_larger}
 use Rattle.row.specs.Fault.{structural}
 use Rattle.store.specs.Pick.{pick}
 use Rattle.mvcc.specs.Rules.{visible, conflicting, claim_conflicting}
-use Rattle.leaf.specs.Find.{later, newest, joined, run_past, running}
-use Rattle.leaf.specs.declared.find.Best.{Best}
+use Rattle.leaf.specs.Find.{later, newest, joined, run_past, running, Best}
 use Rattle.leaf.specs.declared.find.Run.{Run}
-use Rattle.leaf.specs.declared.Judged.{Judged}
 use Rattle.mvcc.specs.Snapshot.{Snapshot}
 use Rattle.leaf.proofs.Walking.{Walked, done, bad, walk, last_key, on_walked, walked, step-cell, leaf-cells, leaf-other}
 
@@ -45,14 +44,14 @@ larger_join key k l h = by_test (ltb key l) refl
     by_test false e = let m = ltb-false key l e in rw (e, le-ltb key k (omega arith))
 
 -- keys that never fall: the last one is the largest
-larger_from : (key : ℕ) (s : List ℕ) (p k c n at : ℕ) {e : ℕ} → judge_cells s p k c n at ≡ Judged.Ok e
+larger_from : (key : ℕ) (s : List ℕ) (p k c n at : ℕ) {e : ℕ} → judge_cells s p k c n at ≡ Ok e
     → fold_cells (λ b x. b || ltb key x.key) (ltb key k) (cells_of s n at) ≡ ltb key (last_key k (cells_of s n at))
 unfolding judge_cells cells_of fold_cells last_key
 larger_from key s p k c zero at j = refl
 larger_from key s p k c (suc n) at {e} j = by_step (step_of s p k c at) refl j (λ x q. larger_from key s p x.key x.version.creator n x.next q)
   where
-    by_step : (r : Step) → step_of s p k c at ≡ r → on_step (λ x. judge_cells s p x.key x.version.creator n x.next) (λ f. Judged.Bad f) r ≡ Judged.Ok e
-        → ((x : Cell) → judge_cells s p x.key x.version.creator n x.next ≡ Judged.Ok e
+    by_step : (r : Step) → step_of s p k c at ≡ r → on_step (λ x. judge_cells s p x.key x.version.creator n x.next) (λ f. Err f) r ≡ Ok e
+        → ((x : Cell) → judge_cells s p x.key x.version.creator n x.next ≡ Ok e
         → fold_cells (λ b y. b || ltb key y.key) (ltb key x.key) (cells_of s n x.next) ≡ ltb key (last_key x.key (cells_of s n x.next)))
         → fold_cells (λ b x. b || ltb key x.key) (ltb key k) (on_cell (λ x. x ∷ cells_of s n x.next) (λ kind. []) (cell_at s at))
         ≡ ltb key (last_key k (on_cell (λ x. x ∷ cells_of s n x.next) (λ kind. []) (cell_at s at)))
@@ -63,7 +62,7 @@ larger_from key s p k c (suc n) at {e} j = by_step (step_of s p k c at) refl j (
         (ap (λ (b : Bool). fold_cells (λ d y. d || ltb key y.key) b (cells_of s n x.next)) (larger_join key k x.key (order_le k c x.key x.version.creator u.1))
         ∙ ih x t)
 
-larger_last : (key : ℕ) (s : List ℕ) (p n at : ℕ) {e : ℕ} → judge_cells s p 0 0 n at ≡ Judged.Ok e → ltb key (last_key 0 (cells_of s n at)) ≡ has_larger key (cells_of s n at)
+larger_last : (key : ℕ) (s : List ℕ) (p n at : ℕ) {e : ℕ} → judge_cells s p 0 0 n at ≡ Ok e → ltb key (last_key 0 (cells_of s n at)) ≡ has_larger key (cells_of s n at)
 unfolding has_larger
 larger_last key s p n at j = let z : ltb key 0 ≡ false = le-ltb key 0 (omega arith) in sym (rw z at (larger_from key s p 0 0 n at j))
 
@@ -84,11 +83,11 @@ module _ {A B : Type 0} (good : ℕ → A → Bool → B) (ill : Fault → B) (f
         ∙ (walked (λ e k b. good e b (ltb key k)) ill f pg p 0 0 n 12 a
         ∙ (by_judged (judge_cells pg p 0 0 n 12) refl ∙ rw (count, leaf-cells p pg leaf refl refl)))
       where
-        by_judged : (j : Judged) → judge_cells pg p 0 0 n 12 ≡ j
+        by_judged : (j : Result ℕ Fault) → judge_cells pg p 0 0 n 12 ≡ j
             → on_judged (λ e. good e (fold_cells f a (cells_of pg n 12)) (ltb key (last_key 0 (cells_of pg n 12)))) ill j
             ≡ on_judged (λ e. good e (fold_cells f a (cells_of pg n 12)) (has_larger key (cells_of pg n 12))) ill j
-        by_judged (Judged.Ok e) t = ap (good e (fold_cells f a (cells_of pg n 12))) (larger_last key pg p n 12 t)
-        by_judged (Judged.Bad g) t = refl
+        by_judged (Ok e) t = ap (good e (fold_cells f a (cells_of pg n 12))) (larger_last key pg p n 12 t)
+        by_judged (Err g) t = refl
 
     pub loop_bad : {g : Fault} → bad g ≡ walk f p 0 0 n 12 a pg → ill g ≡ answer
     loop_bad q = said q
@@ -99,25 +98,25 @@ module _ {A B : Type 0} (good : ℕ → A → Bool → B) (ill : Fault → B) (f
 -- ---- the steps of the folds
 
 -- what is asked of the cell at an offset
-module _ {A : Type 0} (good : Cell → A) (bad₀ : ℕ → A) {r t : CellRead} (e : r ≡ t) where
-  pub read_bad : {kind : ℕ} → r ≡ CellRead.Bad kind → bad₀ kind ≡ on_cell good bad₀ t
+module _ {A : Type 0} (good : Cell → A) (bad₀ : CellFault → A) {r t : Result Cell CellFault} (e : r ≡ t) where
+  pub read_bad : {kind : CellFault} → r ≡ Err kind → bad₀ kind ≡ on_cell good bad₀ t
   read_bad q = rw (sym e ∙ q)
 
-  pub read_got : {x : Cell} {y : A} → r ≡ CellRead.Got x → y ≡ good x → y ≡ on_cell good bad₀ t
+  pub read_got : {x : Cell} {y : A} → r ≡ Ok x → y ≡ good x → y ≡ on_cell good bad₀ t
   read_got q u = u ∙ rw (sym e ∙ q)
 
-pub read_is : {A : Type 0} (good : Cell → A) (bad₀ : ℕ → A) {r : CellRead} {x : Cell} {y : A} → r ≡ CellRead.Got x → y ≡ on_cell good bad₀ r → y ≡ good x
+pub read_is : {A : Type 0} (good : Cell → A) (bad₀ : CellFault → A) {r : Result Cell CellFault} {x : Cell} {y : A} → r ≡ Ok x → y ≡ on_cell good bad₀ r → y ≡ good x
 read_is good bad₀ q u = u ∙ ap (on_cell good bad₀) q
 
 module _ (p : ℕ) (best : Best) (x : Cell) where
-  pub later_first : best ≡ Best.Nothing → Best.At p x ≡ later p best x
+  pub later_first : best ≡ None → Some (p, x) ≡ later p best x
   later_first e = rw e
 
-  module _ {q : ℕ} {o : Cell} (e : best ≡ Best.At q o) where
-    pub later_old : x.version.creator < o.version.creator → Best.At q o ≡ later p best x
+  module _ {q : ℕ} {o : Cell} (e : best ≡ Some (q, o)) where
+    pub later_old : x.version.creator < o.version.creator → Some (q, o) ≡ later p best x
     later_old h = rw (e, lt-ltb _ _ h)
 
-    pub later-new : o.version.creator ≤ x.version.creator → Best.At p x ≡ later p best x
+    pub later-new : o.version.creator ≤ x.version.creator → Some (p, x) ≡ later p best x
     later-new h = rw (e, le-ltb _ _ h)
 
 module _ (sn : Snapshot) (st : ℕ → ℕ) (key : ℕ) (x : Cell) where

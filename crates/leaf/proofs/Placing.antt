@@ -1,4 +1,6 @@
 -- The steps of the place and of the cut: one law for each way out, and how far a walk that cuts gets. Assumes nothing.
+use Rattle.row.specs.declared.CellFault.{CellFault}
+use Rattle.std.proofs.Common.{Result, Ok, Err}
 use mathlib.Core.Path.{◌≡◌, refl, sym, ap, ◌∙◌}
 use mathlib.Core.Bool.{Bool, true, false}
 use mathlib.Core.List.{List, [], ◌∷◌, ◌++◌}
@@ -10,7 +12,6 @@ use lib.ListN.{length}
 use Rattle.store.specs.Pick.{pick}
 use Rattle.row.specs.Read.{cell_at}
 use Rattle.row.specs.declared.Cell.{Cell}
-use Rattle.row.specs.declared.read.CellRead.{CellRead}
 use Rattle.leaf.specs.Cells.{on_cell, cells_of, in_order}
 use Rattle.leaf.specs.Place.{past_cell, place_step, larger_side, better_cut, cut_step, cut_after, cut_of, sizes_of, cut_leaf, cut_fits, uncut}
 use Rattle.leaf.specs.declared.place.Place.{Place}
@@ -72,18 +73,20 @@ module _ (t : ℕ) (pg : List ℕ) (at : ℕ) (here : Cutting) where
   cut_done zero h = refl
   cut_done (suc n) h = absurd (omega arith)
 
-  pub cut_bad : (n : ℕ) {r : CellRead} {kind : ℕ} → r ≡ cell_at pg at → r ≡ CellRead.Bad kind → cut_after t here (sizes_of (cells_of pg n at)) ≡ here
+  pub cut_bad : (n : ℕ) {r : Result Cell CellFault} {kind : CellFault} → r ≡ cell_at pg at → r ≡ Err kind → cut_after t here (sizes_of (cells_of pg n at)) ≡ here
   unfolding cells_of cut_after
   cut_bad zero e q = refl
   cut_bad (suc n) e q = rw (sym e ∙ q)
 
-  pub cut_in : (n : ℕ) {r : CellRead} {x : Cell} {y : Cutting} → 0 < n → r ≡ cell_at pg at → r ≡ CellRead.Got x → y ≡ cut_step t here (x.next - x.at)
-      → cut_after t y (sizes_of (cells_of pg (n - 1) x.next)) ≡ cut_after t here (sizes_of (cells_of pg n at))
+  cut_next : (n : ℕ) {r : Result Cell CellFault} {x : Cell} {y : Cutting} → r ≡ cell_at pg at → r ≡ Ok x → y ≡ cut_step t here (x.next - x.at)
+      → cut_after t y (sizes_of (cells_of pg n x.next)) ≡ cut_after t here (sizes_of (cells_of pg (suc n) at))
   unfolding cells_of cut_after
-  cut_in zero h e q w = absurd (omega arith)
-  cut_in (suc n) h e q w =
-      let m : suc n - 1 ≡ n = omega arith in
-      rw (sym e ∙ q, m, w)
+  cut_next n e q w = rw (sym e ∙ q, w)
+
+  -- of n cells i are passed
+  pub cut_in : (n i : ℕ) {r : Result Cell CellFault} {x : Cell} {y : Cutting} → i < n → r ≡ cell_at pg at → r ≡ Ok x → y ≡ cut_step t here (x.next - x.at)
+      → cut_after t y (sizes_of (cells_of pg (n - (i + 1)) x.next)) ≡ cut_after t here (sizes_of (cells_of pg (n - i) at))
+  cut_in n i h e q w = let m : n - i ≡ suc (n - (i + 1)) = omega arith in rw m (cut_next (n - (i + 1)) e q w)
 
 -- the walk goes forward, within the page
 pub record Forward (pg : List ℕ) (at : ℕ) (x : Cell) : Type 0 where
@@ -91,7 +94,7 @@ pub record Forward (pg : List ℕ) (at : ℕ) (x : Cell) : Type 0 where
   pub here : x.at ≡ at
   pub within : x.next ≤ length pg
 
-pub forward : (pg : List ℕ) (at : ℕ) {r : CellRead} {x : Cell} → r ≡ cell_at pg at → r ≡ CellRead.Got x → Forward pg at x
+pub forward : (pg : List ℕ) (at : ℕ) {r : Result Cell CellFault} {x : Cell} → r ≡ cell_at pg at → r ≡ Ok x → Forward pg at x
 forward pg at {r} {x} e q =
     let p = cell_placed pg at x (sym e ∙ q) in
     record { up = omega (arith, p.past_head, p.whole); here = p.here; within = p.inside }
@@ -110,12 +113,12 @@ unfolding cells_of cut_after
 walk-passed t pg zero at here h e = rw e (record { few = omega arith; short = omega arith })
 walk-passed t pg (suc n) at here h e = rw e (by_read (cell_at pg at) refl (λ x l. walk-passed t pg n x.next (cut_step t here (x.next - x.at)) l refl))
   where
-    by_read : (r : CellRead) → cell_at pg at ≡ r
+    by_read : (r : Result Cell CellFault) → cell_at pg at ≡ r
         → ((x : Cell) → x.next ≤ length pg
         → Passed (cut_step t here (x.next - x.at)) (cut_after t (cut_step t here (x.next - x.at)) (sizes_of (cells_of pg n x.next))) n (length pg - x.next))
         → Passed here (cut_after t here (sizes_of (on_cell (λ x. x ∷ cells_of pg n x.next) (λ kind. []) r))) (suc n) (length pg - at)
-    by_read (CellRead.Bad kind) q ih = record { few = omega arith; short = omega arith }
-    by_read (CellRead.Got x) q ih =
+    by_read (Err kind) q ih = record { few = omega arith; short = omega arith }
+    by_read (Ok x) q ih =
         let f = forward pg at {r = cell_at pg at} refl q in
         let i = ih x f.within in
         let s = step-passed t here (x.next - x.at) refl in

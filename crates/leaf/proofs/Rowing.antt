@@ -1,5 +1,7 @@
 -- Rows and bytes of a leaf, both ways: rows that are written are read back, and the bytes of cells that are read are the
 -- rows'; and the judgement said over rows. Assumes nothing.
+use Rattle.row.specs.declared.CellFault.{CellFault}
+use Rattle.std.proofs.Common.{Result, Ok, Err}
 use mathlib.Core.Path.{◌≡◌, refl, ap, ◌∙◌}
 use mathlib.Core.List.{List, [], ◌∷◌, ◌++◌, map, append_assoc}
 use Prim.Native.Nat.{ℕ, zero, suc, ◌+◌, ◌-◌, ◌≤◌}
@@ -10,12 +12,11 @@ use Rattle.store.specs.Part.{part}
 use Rattle.row.specs.Read.{cell_at}
 use Rattle.row.specs.Write.{stamp_len, pointer_len, stamp_bytes, pointer_bytes, head_bytes, cell_size, cell_bytes}
 use Rattle.row.specs.declared.Cell.{Cell}
-use Rattle.row.specs.declared.read.CellRead.{CellRead}
 use Rattle.leaf.specs.Cells.{on_cell, cells_of}
 use Rattle.leaf.specs.Rows.{Row, AllFit, row_of, rows_of, row_size, row_bytes, rows_bytes}
 use Rattle.store.proofs.PartLaws.{part_add, part_peel, part-first}
 use Rattle.store.proofs.PutLaws.{part_none}
-use Rattle.row.proofs.Writing.{length-head, length-stamp, length-pointer, length-cell}
+use Rattle.row.proofs.Writing.{length-head, length-stamp, length-pointer, length-cell, length-row}
 use Rattle.row.proofs.Exact.{written-is_read, read_is-written, cell_placed}
 
 -- ---- written, then read
@@ -35,7 +36,7 @@ body-there s at r e =
     let i : at + 17 + sl + pl ≡ at + (17 + sl + pl) = omega arith in
     rw i at e₃
 
-cells-first : (s : List ℕ) (at n : ℕ) (c : Cell) → cell_at s at ≡ CellRead.Got c → cells_of s (suc n) at ≡ c ∷ cells_of s n c.next
+cells-first : (s : List ℕ) (at n : ℕ) (c : Cell) → cell_at s at ≡ Ok c → cells_of s (suc n) at ≡ c ∷ cells_of s n c.next
 unfolding cells_of
 cells-first s at n c e = rw e
 
@@ -58,7 +59,7 @@ rows_read s [] at f h e = refl
 rows_read s (r ∷ rs) at f h e =
     let l = length-rows r rs in
     let q : part at (row_size r + length (rows_bytes rs)) s ≡ row_bytes r ++ rows_bytes rs = rw l at (e ∙ rows_cons r rs) in
-    let lb = length-cell r.key r.creator r.stamp r.pointer r.body in
+    let lb = length-row r in
     let q₁ = part-first at (row_size r) (length (rows_bytes rs)) (row_bytes r) (rows_bytes rs) s lb q in
     let q₂ = part_peel at (row_size r) (length (rows_bytes rs)) (row_bytes r) (rows_bytes rs) s lb q in
     let g = written-is_read s at r.key r.creator r.stamp r.pointer r.body f.0.key f.0.creator f.0.stamp f.0.pointer f.0.body (omega arith) q₁ in
@@ -76,10 +77,10 @@ unfolding end_of cells_of
 end-bound s zero at = omega arith
 end-bound s (suc n) at = by_read (cell_at s at) refl (λ c. end-bound s n c.next)
   where
-    by_read : (r : CellRead) → cell_at s at ≡ r → ((c : Cell) → c.next ≤ end_of c.next (cells_of s n c.next))
+    by_read : (r : Result Cell CellFault) → cell_at s at ≡ r → ((c : Cell) → c.next ≤ end_of c.next (cells_of s n c.next))
         → at ≤ end_of at (on_cell (λ c. c ∷ cells_of s n c.next) (λ kind. []) r)
-    by_read (CellRead.Bad kind) e ih = omega arith
-    by_read (CellRead.Got c) e ih = let p = cell_placed s at c e in omega (arith, ih c, p.past_head, p.whole)
+    by_read (Err kind) e ih = omega arith
+    by_read (Ok c) e ih = let p = cell_placed s at c e in omega (arith, ih c, p.past_head, p.whole)
 
 -- the bytes of the cells that are read are the rows'
 pub rows-bytes : (s : List ℕ) → AreBytes s → (n at : ℕ) → part at (end_of at (cells_of s n at) - at) s ≡ rows_bytes (rows_of s n at)
@@ -87,11 +88,11 @@ unfolding cells_of end_of rows_bytes
 rows-bytes s B zero at = part_none at (at - at) s (omega arith)
 rows-bytes s B (suc n) at = by_read (cell_at s at) refl (λ c. rows-bytes s B n c.next)
   where
-    by_read : (r : CellRead) → cell_at s at ≡ r
+    by_read : (r : Result Cell CellFault) → cell_at s at ≡ r
         → ((c : Cell) → part c.next (end_of c.next (cells_of s n c.next) - c.next) s ≡ rows_bytes (rows_of s n c.next))
         → part at (end_of at (on_cell (λ c. c ∷ cells_of s n c.next) (λ kind. []) r) - at) s ≡ rows_bytes (map (row_of s) (on_cell (λ c. c ∷ cells_of s n c.next) (λ kind. []) r))
-    by_read (CellRead.Bad kind) e ih = part_none at (at - at) s (omega arith)
-    by_read (CellRead.Got c) e ih =
+    by_read (Err kind) e ih = part_none at (at - at) s (omega arith)
+    by_read (Ok c) e ih =
         let p = cell_placed s at c e in
         let w = read_is-written s at c B e in
         let size = cell_size c.version.stamp c.version.pointer c.version.len in

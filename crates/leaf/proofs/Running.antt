@@ -1,5 +1,6 @@
 -- The run of a key in a judged leaf: the cells before it, in it and after it, where they stand, and the rows of the key and of
 -- the others. Assumes nothing.
+use Rattle.std.proofs.Common.{Result, Ok, Err}
 use mathlib.Core.Path.{◌≡◌, refl, sym, ap, ◌∙◌, subst}
 use mathlib.Core.Bool.{Bool, true, false, not}
 use mathlib.Core.List.{List, [], ◌∷◌, ◌++◌, map, map-append, append-nil}
@@ -16,9 +17,7 @@ use Rattle.leaf.specs.Cells.{cells, fold_cells, in_order, judge_leaf, on_judged,
 use Rattle.leaf.specs.Find.{running, run_leaf}
 use Rattle.leaf.specs.FindFacts.{RunIsKeys}
 use Rattle.leaf.specs.Rows.{Row, row_of, rows, only, of_key}
-use Rattle.leaf.specs.declared.Judged.{Judged}
 use Rattle.leaf.specs.declared.find.Run.{Run}
-use Rattle.leaf.specs.declared.find.LeafRun.{LeafRun}
 use Rattle.leaf.proofs.Chain.{Chain, chain-cells, chain_back, chain_left, chain-right, chain_grows, end-append, Rising, judged-leaf}
 use Rattle.leaf.proofs.Filtering.{filt_app}
 use Rattle.leaf.proofs.Finding.{order_le, running-below, running-same, running_above}
@@ -171,7 +170,7 @@ module _ (key : ℕ) where
 
 -- the cells before the run, in it and after it; where it stands; and the rows of the key and of the others
 pub record RunIs (pg : List ℕ) (p key : ℕ) (run : Run) (e : ℕ) (larger : Bool) : Type 0 where
-  pub judged : judge_leaf pg p ≡ Judged.Ok e
+  pub judged : judge_leaf pg p ≡ Ok e
   pub last : has_larger key (cells pg) ≡ larger
   pub before : List Cell
   pub out : List Cell
@@ -188,19 +187,20 @@ pub record RunIs (pg : List ℕ) (p key : ℕ) (run : Run) (e : ℕ) (larger : B
   pub of_the_key : only (of_key key) (rows pg) ≡ map (row_of pg) out
   pub others : only (λ r. not (of_key key r)) (rows pg) ≡ map (row_of pg) before ++ map (row_of pg) after
 
-pub run_is : (pg : List ℕ) (p key e : ℕ) (run : Run) (larger : Bool) → run_leaf pg p key ≡ LeafRun.Ok run e larger → RunIs pg p key run e larger
+pub run_is : (pg : List ℕ) (p key e : ℕ) (run : Run) (larger : Bool) → run_leaf pg p key ≡ Ok (run, e, larger) → RunIs pg p key run e larger
 unfolding run_leaf
 run_is pg p key e run larger told = by_judged (judge_leaf pg p) refl told
   where
-    by_judged : (j : Judged) → judge_leaf pg p ≡ j
-        → on_judged (λ d. LeafRun.Ok (fold_cells (running key) (record { from = 12; to = 12; count = 0 }) (cells pg)) d (has_larger key (cells pg))) (λ f. LeafRun.Bad f) j ≡ LeafRun.Ok run e larger
+    by_judged : (j : Result ℕ Fault) → judge_leaf pg p ≡ j
+        → on_judged {A = Result (Run × ℕ × Bool) Fault} (λ d. Ok (fold_cells (running key) (record { from = 12; to = 12; count = 0 }) (cells pg), d, has_larger key (cells pg))) (λ f. Err f) j ≡ Ok (run, e, larger)
         → RunIs pg p key run e larger
-    by_judged (Judged.Bad f) t w = absurd (let z : ◌≡◌ {A = ℕ} 0 1 = cc in omega arith)
-    by_judged (Judged.Ok d) t w =
+    by_judged (Err f) t w = absurd (let z : ◌≡◌ {A = ℕ} 0 1 = cc in omega arith)
+    by_judged (Ok d) t w =
         let there = judged-leaf p pg d t in
         let s = splits key 0 0 12 (cells pg) there.rising in
-        let ends : d ≡ e = cc in
-        let is : run ≡ record { from = end_of 12 s.before; to = end_of (end_of 12 s.before) s.out; count = length s.out } = (let q : fold_cells (running key) (record { from = 12; to = 12; count = 0 }) (cells pg) ≡ run = cc in sym q ∙ s.told) in
+        let same : ◌≡◌ {A = Run × ℕ × Bool} (fold_cells (running key) (record { from = 12; to = 12; count = 0 }) (cells pg), d, has_larger key (cells pg)) (run, e, larger) = cc (w) in
+        let ends : d ≡ e = ap (λ (x : Run × ℕ × Bool). x.1) same in
+        let is : run ≡ record { from = end_of 12 s.before; to = end_of (end_of 12 s.before) s.out; count = length s.out } = sym (ap (λ (x : Run × ℕ × Bool). x.0) same) ∙ s.told in
         let all : Chain pg 12 (s.before ++ (s.out ++ s.after)) = subst (Chain pg 12) s.is (chain-cells pg (cell_count pg) 12) in
         let back = chain-right pg 12 s.before (s.out ++ s.after) all in
         let run_on = chain_left pg (end_of 12 s.before) s.out s.after back in
@@ -212,8 +212,8 @@ run_is pg p key e run larger told = by_judged (judge_leaf pg p) refl told
         sym (end-append (end_of 12 s.before) s.out s.after) ∙ (sym (end-append 12 s.before (s.out ++ s.after)) ∙ (sym (ap (end_of 12) s.is) ∙ (there.end ∙ ends))) in
         rw is
         (record {
-          judged = t ∙ ap (λ (i : ℕ). Judged.Ok i) ends;
-          last = cc;
+          judged = t ∙ ap (λ (i : ℕ). Ok i) ends;
+          last = ap (λ (x : Run × ℕ × Bool). x.2) same;
           before = s.before;
           out = s.out;
           after = s.after;
@@ -231,15 +231,15 @@ run_is pg p key e run larger told = by_judged (judge_leaf pg p) refl told
         })
 
 -- a fault is the judgement's
-pub run_bad : (pg : List ℕ) (p key : ℕ) (f : Fault) → run_leaf pg p key ≡ LeafRun.Bad f → judge_leaf pg p ≡ Judged.Bad f
+pub run_bad : (pg : List ℕ) (p key : ℕ) (f : Fault) → run_leaf pg p key ≡ Err f → judge_leaf pg p ≡ Err f
 unfolding run_leaf
 run_bad pg p key f told = by_judged (judge_leaf pg p) told
   where
-    by_judged : (j : Judged)
-        → on_judged (λ d. LeafRun.Ok (fold_cells (running key) (record { from = 12; to = 12; count = 0 }) (cells pg)) d (has_larger key (cells pg))) (λ g. LeafRun.Bad g) j ≡ LeafRun.Bad f
-        → j ≡ Judged.Bad f
-    by_judged (Judged.Ok d) w = absurd (let z : ◌≡◌ {A = ℕ} 0 1 = cc in omega arith)
-    by_judged (Judged.Bad g) w = cc
+    by_judged : (j : Result ℕ Fault)
+        → on_judged {A = Result (Run × ℕ × Bool) Fault} (λ d. Ok (fold_cells (running key) (record { from = 12; to = 12; count = 0 }) (cells pg), d, has_larger key (cells pg))) (λ g. Err g) j ≡ Err f
+        → j ≡ Err f
+    by_judged (Ok d) w = absurd (let z : ◌≡◌ {A = ℕ} 0 1 = cc in omega arith)
+    by_judged (Err g) w = cc
 
 pub run-is_keys : RunIsKeys
 run-is_keys pg p key e run larger told =

@@ -1,19 +1,18 @@
 -- The cells of a leaf as a list, and its judgement (document 01, section 3: "cells are readable and non-decreasing by
 -- key, then creator"), which answers where the cells end, or the first fault in reading order (its kind by row/Read's numbers).
-use Rattle.std.specs.Prelude.{Bool, ◌&&◌, ◌||◌, false, List, [], ◌∷◌, ℕ, zero, suc, leb, ltb, eqb}
+use Rattle.row.specs.declared.CellFault.{CellFault}
+use Rattle.std.specs.Prelude.{Result, Ok, Err, Bool, ◌&&◌, ◌||◌, false, List, [], ◌∷◌, ℕ, zero, suc, leb, ltb, eqb}
 use Rattle.store.specs.Pick.{pick}
 use Rattle.page.specs.Header.{node_type, cell_count, header_size, node_leaf}
 use Rattle.row.specs.Read.{cell_at}
 use Rattle.row.specs.declared.Cell.{Cell}
 use Rattle.row.specs.declared.Fault.{Fault}
-use Rattle.row.specs.declared.read.CellRead.{CellRead}
-use Rattle.leaf.specs.declared.Judged.{Judged}
 use Rattle.row.specs.Fault.{cell_fault, structural}
 
 -- go on with what was read
-abbrev pub on_cell : {A : Type 0} → (Cell → A) → (ℕ → A) → CellRead → A
-on_cell good bad (CellRead.Got c) = good c
-on_cell good bad (CellRead.Bad kind) = bad kind
+abbrev pub on_cell : {A : Type 0} → (Cell → A) → (CellFault → A) → Result Cell CellFault → A
+on_cell good bad (Ok c) = good c
+on_cell good bad (Err kind) = bad kind
 
 -- n cells from `at` on, up to the first that is not readable
 unfoldable pub cells_of : List ℕ → (n at : ℕ) → List Cell
@@ -48,17 +47,17 @@ on_step good ill (Step.Got x) = good x
 on_step good ill (Step.Bad f) = ill f
 
 -- n cells from `at` on, after one of key k and creator c
-unfoldable pub judge_cells : List ℕ → (p k c n at : ℕ) → Judged
-judge_cells s p k c zero at = Judged.Ok at
-judge_cells s p k c (suc n) at = on_step (λ x. judge_cells s p x.key x.version.creator n x.next) (λ f. Judged.Bad f) (step_of s p k c at)
+unfoldable pub judge_cells : List ℕ → (p k c n at : ℕ) → Result ℕ Fault
+judge_cells s p k c zero at = Ok at
+judge_cells s p k c (suc n) at = on_step (λ x. judge_cells s p x.key x.version.creator n x.next) (λ f. Err f) (step_of s p k c at)
 
 -- page p with the bytes pg; no rank and no creator is below 0
-unfoldable pub judge_leaf : List ℕ → ℕ → Judged
-judge_leaf pg p = pick (eqb (node_type pg) node_leaf) (judge_cells pg p 0 0 (cell_count pg) header_size) (Judged.Bad (structural p))
+unfoldable pub judge_leaf : List ℕ → ℕ → Result ℕ Fault
+judge_leaf pg p = pick (eqb (node_type pg) node_leaf) (judge_cells pg p 0 0 (cell_count pg) header_size) (Err (structural p))
 
-abbrev pub on_judged : {A : Type 0} → (ℕ → A) → (Fault → A) → Judged → A
-on_judged good bad (Judged.Ok e) = good e
-on_judged good bad (Judged.Bad f) = bad f
+abbrev pub on_judged : {A : Type 0} → (ℕ → A) → (Fault → A) → Result ℕ Fault → A
+on_judged good bad (Ok e) = good e
+on_judged good bad (Err f) = bad f
 
 -- some cell has a larger key
 unfoldable pub has_larger : ℕ → List Cell → Bool

@@ -1,15 +1,12 @@
 -- What a lookup chooses in a leaf (document 01, section 4: "the largest visible creator; on a tie the last in chain order",
 -- P9's first half), and that a judgement's yes does not depend on the page's number.
-use Rattle.std.specs.Prelude.{◌≡◌, Bool, true, List, [], ◌∷◌, ◌++◌, ℕ, ◌≤◌, ◌<◌}
+use Rattle.std.specs.Prelude.{Some, None, Ok, ◌≡◌, Bool, true, List, [], ◌∷◌, ◌++◌, ℕ, ◌≤◌, ◌<◌}
 use Rattle.mvcc.specs.Rules.{visible}
 use Rattle.row.specs.declared.Cell.{Cell}
 use Rattle.leaf.specs.Cells.{fold_cells, judge_leaf}
-use Rattle.leaf.specs.Find.{newest, run_leaf}
-use Rattle.leaf.specs.declared.Judged.{Judged}
+use Rattle.leaf.specs.Find.{newest, run_leaf, Best}
 use Rattle.leaf.specs.Rows.{rows_of, rows, only, of_key}
-use Rattle.leaf.specs.declared.find.Best.{Best}
 use Rattle.leaf.specs.declared.find.Run.{Run}
-use Rattle.leaf.specs.declared.find.LeafRun.{LeafRun}
 use Rattle.mvcc.specs.Snapshot.{Snapshot}
 
 -- a version of the key that is seen
@@ -33,20 +30,20 @@ pub record ChosenCell (key : ℕ) (sn : Snapshot) (st : ℕ → ℕ) (cs : List 
 
 -- what a walk from nothing ends with
 abbrev pub ChosenBy : (p key : ℕ) → Snapshot → (ℕ → ℕ) → List Cell → Best → Type 0
-ChosenBy p key sn st cs Best.Nothing = EachCandidate key sn st (λ x. ⊥) cs
-ChosenBy p key sn st cs (Best.At q c) = (q ≡ p) × ChosenCell key sn st cs c
+ChosenBy p key sn st cs None = EachCandidate key sn st (λ x. ⊥) cs
+ChosenBy p key sn st cs (Some (q, c)) = (q ≡ p) × ChosenCell key sn st cs c
 
 abbrev pub LookupChooses : Type 0
 LookupChooses =
     (sn : Snapshot) (st : ℕ → ℕ) (p key : ℕ) (cs : List Cell)
-    → ChosenBy p key sn st cs (fold_cells (newest p key sn st) Best.Nothing cs)
+    → ChosenBy p key sn st cs (fold_cells (newest p key sn st) None cs)
 
 -- a judgement's yes is the same for any page number
 abbrev pub AnyPage : Type 0
-AnyPage = (p q e : ℕ) (pg : List ℕ) → judge_leaf pg p ≡ Judged.Ok e → judge_leaf pg q ≡ Judged.Ok e
+AnyPage = (p q e : ℕ) (pg : List ℕ) → judge_leaf pg p ≡ Ok e → judge_leaf pg q ≡ Ok e
 
 -- the cells of a run are exactly the key's, in their order
 abbrev pub RunIsKeys : Type 0
 RunIsKeys =
-    (pg : List ℕ) (p key e : ℕ) (run : Run) (larger : Bool) → run_leaf pg p key ≡ LeafRun.Ok run e larger
+    (pg : List ℕ) (p key e : ℕ) (run : Run) (larger : Bool) → run_leaf pg p key ≡ Ok (run, e, larger)
     → rows_of pg run.count run.from ≡ only (of_key key) (rows pg)

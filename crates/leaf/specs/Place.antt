@@ -1,11 +1,11 @@
 -- Where a new version goes (document 01, section 5: "after equals of its key and creator"), and where an overfull leaf
 -- is cut ("where the larger side is smallest; the earliest cut wins. Both sides are nonempty"). A cut is a value.
-use Rattle.std.specs.Prelude.{Bool, ◌&&◌, List, [], ◌∷◌, ◌++◌, map, ℕ, ◌+◌, ◌-◌, max, ltb, leb}
+use Rattle.std.specs.Prelude.{Result, Ok, Err, Bool, ◌&&◌, List, [], ◌∷◌, ◌++◌, map, ℕ, ◌+◌, ◌-◌, max, ltb, leb}
+use Rattle.row.specs.declared.Fault.{Fault}
 use Rattle.store.specs.Pick.{pick}
 use Rattle.row.specs.declared.Cell.{Cell}
 use Rattle.leaf.specs.Cells.{cells_of, cells, fold_cells, in_order, judge_leaf, on_judged}
 use Rattle.leaf.specs.declared.place.Place.{Place}
-use Rattle.leaf.specs.declared.place.LeafPlace.{LeafPlace}
 use Rattle.leaf.specs.declared.place.Cut.{Cut}
 use Rattle.leaf.specs.declared.place.Cutting.{Cutting}
 use Rattle.page.specs.Header.{header_size, leaf_room}
@@ -22,8 +22,8 @@ unfoldable pub place_of : (k c : ℕ) → List Cell → Place
 place_of k c cs = fold_cells (place_step k c) (record { at = header_size; before = 0 }) cs
 
 -- the place in page p, after its judgement, and where its cells end
-unfoldable pub place_leaf : List ℕ → (p k c : ℕ) → LeafPlace
-place_leaf pg p k c = on_judged (λ e. LeafPlace.Ok (place_of k c (cells pg)) e) (λ f. LeafPlace.Bad f) (judge_leaf pg p)
+unfoldable pub place_leaf : List ℕ → (p k c : ℕ) → Result (Place × ℕ) Fault
+place_leaf pg p k c = on_judged (λ e. Ok (place_of k c (cells pg), e)) (λ f. Err f) (judge_leaf pg p)
 
 -- the larger side of a cut, of t bytes in all
 abbrev pub larger_side : ℕ → Cut → ℕ

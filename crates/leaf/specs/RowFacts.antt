@@ -1,16 +1,15 @@
 -- A sound leaf is one that was judged, its cells ending at e; what is proved of the rows of a leaf that is written, and
 -- of a sound one.
-use Rattle.std.specs.Prelude.{◌≡◌, List, ℕ, ◌+◌, ◌≤◌, length}
+use Rattle.std.specs.Prelude.{Ok, ◌≡◌, List, ℕ, ◌+◌, ◌≤◌, length}
 use Rattle.store.specs.Le.{AreBytes}
 use Rattle.page.specs.Header.{node_type, cell_count, next_leaf, header_size, leaf_room}
 use Rattle.leaf.specs.Cells.{judge_leaf}
 use Rattle.leaf.specs.Rows.{Row, AllFit, rows, rows_bytes, write_rows}
-use Rattle.leaf.specs.declared.Judged.{Judged}
 
 pub record Sound (pg : List ℕ) (e : ℕ) : Type 0 where
   pub bytes : AreBytes pg
   pub whole : length pg ≡ 4096
-  pub judged : judge_leaf pg 0 ≡ Judged.Ok e
+  pub judged : judge_leaf pg 0 ≡ Ok e
 
 -- rows that are written are read back, and the header's other fields stay
 abbrev pub RowsAreRead : Type 0

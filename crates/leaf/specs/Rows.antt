@@ -1,25 +1,17 @@
--- A row is a cell without its places: key, creator, stamp, pointer and data. The rows of a leaf, their bytes, and what
--- writing a leaf does (document 01, section 2: "zeroes bytes 12 to 4095, stores the cells one after another and sets
--- the count; bytes 8 to 11 stay").
+-- The rows of a leaf, which are its cells without their places (row/Row), their bytes, and what writing a leaf does
+-- (document 01, section 2: "zeroes bytes 12 to 4095, stores the cells one after another and sets the count; bytes 8 to 11
+-- stay").
 use Rattle.std.specs.Prelude.{List, [], ◌∷◌, ◌++◌, map, Bool, ℕ, ◌≤◌, ◌<◌, length, eqb}
 use Rattle.store.specs.Part.{part, pad}
 use Rattle.store.specs.Pick.{pick}
 use Rattle.page.specs.Header.{cell_count, with_count, header_size}
-use Rattle.row.specs.Write.{cell_bytes, cell_size, max_data}
+use Rattle.row.specs.Write.{max_data}
 use Rattle.row.specs.Exact.{StampFits, PointerFits}
-use Rattle.row.specs.declared.Stamp.{Stamp}
-use Rattle.row.specs.declared.Pointer.{Pointer}
 use Rattle.row.specs.declared.Cell.{Cell}
+pub use Rattle.row.specs.Row.{Row, row_size, row_bytes}
 use Rattle.leaf.specs.Cells.{cells_of}
 
-pub record Row : Type 0 where
-  pub key : ℕ
-  pub creator : ℕ
-  pub stamp : Stamp
-  pub pointer : Pointer
-  pub body : List ℕ
-
--- its numbers and its data fit a cell
+-- a row's numbers and its data fit a cell
 pub record RowFits (r : Row) : Type 0 where
   pub key : r.key < 4294967296
   pub creator : r.creator < 18446744073709551616
@@ -48,12 +40,6 @@ rows_of s n at = map (row_of s) (cells_of s n at)
 -- the rows of a leaf page
 abbrev pub rows : List ℕ → List Row
 rows pg = rows_of pg (cell_count pg) header_size
-
-abbrev pub row_size : Row → ℕ
-row_size r = cell_size r.stamp r.pointer (length r.body)
-
-abbrev pub row_bytes : Row → List ℕ
-row_bytes r = cell_bytes r.key r.creator r.stamp r.pointer r.body
 
 unfoldable pub rows_bytes : List Row → List ℕ
 rows_bytes [] = []

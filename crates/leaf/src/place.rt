@@ -12,13 +12,6 @@ pub struct Place {
     pub before: usize,
 }
 
-// The place, and where the leaf's cells end; or the leaf's fault.
-#[derive(Clone, Copy)]
-pub enum LeafPlace {
-    Ok(Place, usize),
-    Bad(Fault),
-}
-
 // How many cells, and how many of their bytes, stay on the left.
 #[derive(Clone, Copy)]
 pub struct Cut {
@@ -45,14 +38,14 @@ fn past(key: u32, creator: u64, here: Place, k: u32, c: u64, next: usize) -> Pla
 }
 
 // Judges the leaf and finds the place of a new version in one pass.
-pub fn place_in_leaf(pg: &[u8], p: u32, key: u32, creator: u64) -> LeafPlace
+pub fn place_in_leaf(pg: &[u8], p: u32, key: u32, creator: u64) -> Result<(Place, usize), Fault>
     requires { length pg.now ≡ 4096 }
     ensures { result ≡ place_leaf pg.now p key creator }
 {
     if page::get_node_type(pg) != page::NODE_LEAF {
-        return LeafPlace::Bad(row::structural_fault(p));
+        return Err(row::structural_fault(p));
     }
-    let mut left = page::get_cell_count(pg) as usize;
+    let count = page::get_cell_count(pg);
     let mut at = page::HEADER_SIZE;
     let mut k: u32 = 0;
     let mut c: u64 = 0;
@@ -60,18 +53,14 @@ pub fn place_in_leaf(pg: &[u8], p: u32, key: u32, creator: u64) -> LeafPlace
         at: page::HEADER_SIZE,
         before: 0,
     };
-    while 0 < left {
-        let end = crate::next_end(pg, k, c, at);
-        if end == 0 {
-            return LeafPlace::Bad(crate::fault_at(pg, p, at));
-        }
+    for _ in 0..count {
+        let end = crate::next_cell(pg, p, k, c, at)?;
         k = page::key::get_rank(pg, at);
         c = row::read::creator_at(pg, at);
         here = past(key, creator, here, k, c, end);
         at = end;
-        left -= 1;
     }
-    LeafPlace::Ok(here, at)
+    Ok((here, at))
 }
 
 fn larger_side(t: usize, cut: Cut) -> usize
@@ -114,16 +103,14 @@ fn cut_cells(pg: &[u8], t: usize, start: Cutting, n: usize, from: usize) -> Cutt
     requires { (length pg.now ≡ 4096) × (from ≤ 4096) × (n < 32768) × (start.left.cells < 32768) × (start.left.bytes < 32768) }
     ensures { result ≡ cut_after t start (sizes_of (cells_of pg.now n from)) }
 {
-    let mut left = n;
     let mut at = from;
     let mut here = start;
-    while 0 < left {
-        let row::read::CellRead::Got(x) = row::read::read_cell(pg, at) else {
+    for _ in 0..n {
+        let Ok(x) = row::read::read_cell(pg, at) else {
             return here;
         };
         here = cut_step(t, here, x.next - x.at);
         at = x.next;
-        left -= 1;
     }
     here
 }

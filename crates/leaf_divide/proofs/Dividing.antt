@@ -1,5 +1,6 @@
 -- Laws of a leaf divided over two pages: what was moved to the right side and what was kept on the left, with the edit
 -- done on one of them, are the two sides of the leaf as it would be; and the pool by its two pages. Assumes nothing.
+use Rattle.std.proofs.Common.{Some, None, Ok}
 use mathlib.Core.Path.{◌≡◌, refl, sym, ap, ◌∙◌}
 use mathlib.Core.List.{List, [], ◌++◌, append_assoc}
 use Prim.Native.Nat.{ℕ, ◌+◌, ◌-◌, ◌*◌, ◌≤◌, ◌<◌}
@@ -12,9 +13,7 @@ use Rattle.page.specs.Page.{page, set_page}
 use Rattle.page.specs.Header.{next_leaf, with_node_type, with_count, with_next_leaf}
 use Rattle.row.specs.Read.{cell_at}
 use Rattle.row.specs.Write.{cell_size, cell_bytes}
-use Rattle.row.specs.declared.Stamp.{Stamp}
 use Rattle.row.specs.declared.Cell.{Cell}
-use Rattle.row.specs.declared.read.CellRead.{CellRead}
 use Rattle.leaf.specs.declared.place.Cut.{Cut}
 use Rattle.leaf_divide.specs.Divide.{left_leaf, right_leaf, divided}
 use Rattle.store.proofs.LeLaws.{length-bytes_le, length-put_at, le_at-put_at-below}
@@ -367,18 +366,18 @@ module _ (p q n a b e : ℕ) (cut : Cut) (x s : List ℕ) (less : p < q) (fits :
 -- ---- a stamp
 
 module _ (p q n e d : ℕ) (cut : Cut) (c : Cell) (s : List ℕ) (less : p < q) (fits : q * 4096 + 4096 ≤ length s) (B : AreBytes s)
-    (got : cell_at (page s p) c.at ≡ CellRead.Got c) (live : c.version.stamp ≡ Stamp.Absent) (in₀ : 12 ≤ c.at) (in₁ : c.next ≤ e) (in₂ : e ≤ 4096) where
+    (got : cell_at (page s p) c.at ≡ Ok c) (live : c.version.stamp ≡ None) (in₀ : 12 ≤ c.at) (in₁ : c.next ≤ e) (in₂ : e ≤ 4096) where
   abbrev stamped : List ℕ
-  stamped = cell_bytes c.key c.version.creator (Stamp.By d) c.version.pointer (body_of c (page s p))
+  stamped = cell_bytes c.key c.version.creator (Some d) c.version.pointer (body_of c (page s p))
 
   abbrev size : ℕ
-  size = cell_size Stamp.Absent c.version.pointer (length (body_of c (page s p)))
+  size = cell_size None c.version.pointer (length (body_of c (page s p)))
 
   ends : c.next ≡ c.at + size
   ends = cell-ends c (page s p) (bytes-page p s B) got live
 
   grows : length stamped ≡ size + 8
-  grows = length-cell c.key c.version.creator (Stamp.By d) c.version.pointer (body_of c (page s p)) ∙ omega arith
+  grows = length-cell c.key c.version.creator (Some d) c.version.pointer (body_of c (page s p)) ∙ omega arith
 
   pub stamp-right-done : {s₁ y s₃ : List ℕ} (a' e' m : ℕ) → 12 + cut.bytes ≤ c.at → e + 8 ≤ 4096 + cut.bytes → a' + cut.bytes ≡ c.at → e' + cut.bytes ≡ e → m ≡ c.next - c.at
       → s₁ ≡ parted p q (12 + cut.bytes) e s
@@ -394,7 +393,7 @@ module _ (p q n e d : ℕ) (cut : Cut) (c : Cell) (s : List ℕ) (less : p < q) 
       let q₁ : page s₁ q ≡ moved_over p q (12 + cut.bytes) e s = ap (λ (t : List ℕ). page t q) e₁ ∙ r in
       let hd = part 0 12 (with_node_type 1 (page s q)) in
       let lh : length hd ≡ 12 = length_part 0 12 (with_node_type 1 (page s q)) (omega (arith, len_leaf p q 0 0 s less fits)) in
-      let there : part a' size (page s₁ q) ≡ cell_bytes c.key c.version.creator Stamp.Absent c.version.pointer (body_of c (page s p))
+      let there : part a' size (page s₁ q) ≡ cell_bytes c.key c.version.creator None c.version.pointer (body_of c (page s p))
       = rw q₁ (moved 4096 12 (12 + cut.bytes) (e - (12 + cut.bytes)) hd (page s p) lh (omega (arith, len_p p q 0 0 s less fits)) a' c.at size (omega arith) (omega arith) (omega arith)
       ∙ cell-bytes c (page s p) (bytes-page p s B) got live) in
       let g = stamp-grown a' e' c.key c.version.creator d c.version.pointer (body_of c (page s p)) (page s₁ q) (rw q₁ lm) m (omega arith) (omega arith) (omega arith) there in
@@ -411,7 +410,7 @@ module _ (p q n e d : ℕ) (cut : Cut) (c : Cell) (s : List ℕ) (less : p < q) 
       let lm = length_moved p q mid e s less fits (omega arith) h₁ in₂ in
       let lk = length_kept p q mid e s less fits (omega arith) h₁ in₂ in
       let p₁ : page s₁ p ≡ kept p mid s = ap (λ (t : List ℕ). page t p) e₁ ∙ both_left p q (kept p mid s) (moved_over p q mid e s) s less fits lk lm in
-      let there : part c.at size (page s₁ p) ≡ cell_bytes c.key c.version.creator Stamp.Absent c.version.pointer (body_of c (page s p))
+      let there : part c.at size (page s₁ p) ≡ cell_bytes c.key c.version.creator None c.version.pointer (body_of c (page s p))
       = rw p₁ (moved 4096 0 0 mid [] (page s p) refl (omega (arith, len_p p q 0 0 s less fits)) c.at c.at size (omega arith) (omega arith) (omega arith)
       ∙ cell-bytes c (page s p) (bytes-page p s B) got live) in
       let g = stamp-grown c.at mid c.key c.version.creator d c.version.pointer (body_of c (page s p)) (page s₁ p) (rw p₁ lk) m (omega arith) h₂ (omega arith) there in

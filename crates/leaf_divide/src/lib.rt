@@ -3,18 +3,18 @@
 // is then done on the side where it falls, so that no image of the overfull leaf and no buffer of a cell is needed.
 #![tactic(auto)]
 
-ghost use Rattle.std.specs.Prelude.{◌≡◌, ◌++◌, ◌+◌, ◌-◌, ◌*◌, ◌≤◌, ◌<◌, length};
+ghost use Rattle.std.specs.Prelude.{◌≡◌, ◌++◌, ◌+◌, ◌-◌, ◌*◌, ◌≤◌, ◌<◌, length, Some, None, Ok};
 ghost use Rattle.store.specs.Part.{part, pad, spliced, zeros};
 ghost use Rattle.page.specs.Page.{page, set_page};
 ghost use Rattle.page.specs.Header.{next_leaf, with_node_type, with_count, with_next_leaf};
 ghost use Rattle.row.specs.Read.{cell_at};
-ghost use Rattle.row.specs.Write.{cell_size, cell_bytes};
-ghost use Rattle.row.specs.declared.read.CellRead.{CellRead};
+ghost use Rattle.row.specs.Write.{cell_bytes};
+ghost use Rattle.row.specs.Row.{row_size, row_bytes};
 ghost use Rattle.leaf_divide.specs.Divide.{divided};
 
 use leaf::place::Cut;
 use page::PAGE_SIZE;
-use row::{Cell, Pointer, Stamp};
+use row::{Cell, NewVersion};
 
 // The cells of page p that stand from c to e, moved into page q, which becomes a leaf.
 fn part_leaf(pool: &mut [u8], p: u32, q: u32, c: usize, e: usize)
@@ -50,30 +50,17 @@ pub fn insert_divide_right(
     e: usize,
     n: usize,
     cut: Cut,
-    key: u32,
-    creator: u64,
-    stamp: Stamp,
-    pointer: Pointer,
-    body: &[u8],
+    version: &NewVersion<'_>,
 )
     requires p_lt_q { (p < q) × (q * 4096 + 4096 ≤ length pool.old) × (page pool.old q ≡ zeros 4096) }
     requires bytes_bound { (12 + cut.bytes ≤ at) × (at ≤ e) × (e ≤ 4096) × (n < 65535) × (cut.cells ≤ n + 1) }
-    requires body_len_bound { (length body.now ≤ 4051) × (e + cell_size stamp pointer (length body.now) ≤ 4096 + cut.bytes) }
-    ensures { pool.new ≡ divided p q (n + 1) cut (spliced at at e (cell_bytes key creator stamp pointer body.now) (page pool.old p)) pool.old }
+    requires body_len_bound { (length version.now.body ≤ 4051) × (e + row_size version.now ≤ 4096 + cut.bytes) }
+    ensures { pool.new ≡ divided p q (n + 1) cut (spliced at at e (row_bytes version.now) (page pool.old p)) pool.old }
 {
     part_leaf(pool, p, q, page::HEADER_SIZE + cut.bytes, e);
     let b = q as usize * PAGE_SIZE;
     let z = b + PAGE_SIZE;
-    leaf_edit::put_cell(
-        &mut pool[b..z],
-        at - cut.bytes,
-        e - cut.bytes,
-        key,
-        creator,
-        stamp,
-        pointer,
-        body,
-    );
+    leaf_edit::put_cell(&mut pool[b..z], at - cut.bytes, e - cut.bytes, version);
     link_leaves(pool, p, q, cut.cells, n + 1 - cut.cells);
 }
 
@@ -86,22 +73,18 @@ pub fn insert_divide_left(
     e: usize,
     n: usize,
     cut: Cut,
-    key: u32,
-    creator: u64,
-    stamp: Stamp,
-    pointer: Pointer,
-    body: &[u8],
+    version: &NewVersion<'_>,
 )
     requires p_lt_q { (p < q) × (q * 4096 + 4096 ≤ length pool.old) × (page pool.old q ≡ zeros 4096) }
-    requires at_bound { (12 ≤ at) × (e ≤ 4096) × (12 + cut.bytes ≤ 4096) × (n < 65535) × (cut.cells ≤ n + 1) × (length body.now ≤ 4051) }
-    requires body_bound { (at + cell_size stamp pointer (length body.now) ≤ 12 + cut.bytes) × (12 + cut.bytes ≤ e + cell_size stamp pointer (length body.now)) }
-    ensures { pool.new ≡ divided p q (n + 1) cut (spliced at at e (cell_bytes key creator stamp pointer body.now) (page pool.old p)) pool.old }
+    requires at_bound { (12 ≤ at) × (e ≤ 4096) × (12 + cut.bytes ≤ 4096) × (n < 65535) × (cut.cells ≤ n + 1) × (length version.now.body ≤ 4051) }
+    requires body_bound { (at + row_size version.now ≤ 12 + cut.bytes) × (12 + cut.bytes ≤ e + row_size version.now) }
+    ensures { pool.new ≡ divided p q (n + 1) cut (spliced at at e (row_bytes version.now) (page pool.old p)) pool.old }
 {
-    let mid = page::HEADER_SIZE + cut.bytes - row::write::cell_size(stamp, pointer, body.len());
+    let mid = page::HEADER_SIZE + cut.bytes - version.size();
     part_leaf(pool, p, q, mid, e);
     let a = p as usize * PAGE_SIZE;
     let z = a + PAGE_SIZE;
-    leaf_edit::put_cell(&mut pool[a..z], at, mid, key, creator, stamp, pointer, body);
+    leaf_edit::put_cell(&mut pool[a..z], at, mid, version);
     link_leaves(pool, p, q, cut.cells, n + 1 - cut.cells);
 }
 
@@ -117,9 +100,9 @@ pub fn stamp_divide_right(
     d: u64,
 )
     requires p_lt_q { (p < q) × (q * 4096 + 4096 ≤ length pool.old) × (page pool.old q ≡ zeros 4096) }
-    requires at_value { (cell_at (page pool.old p) c.at ≡ CellRead.Got c) × (c.version.stamp ≡ Stamp.Absent) × (c.next ≤ e) × (e ≤ 4096) }
+    requires at_value { (cell_at (page pool.old p) c.at ≡ Ok c) × (c.version.stamp ≡ None) × (c.next ≤ e) × (e ≤ 4096) }
     requires bytes_bound { (12 + cut.bytes ≤ c.at) × (e + 8 ≤ 4096 + cut.bytes) × (n < 65536) × (cut.cells ≤ n) }
-    ensures { pool.new ≡ divided p q n cut (spliced c.at c.next e (cell_bytes c.key c.version.creator (Stamp.By d) c.version.pointer (part c.version.start c.version.len (page pool.old p))) (page pool.old p)) pool.old }
+    ensures { pool.new ≡ divided p q n cut (spliced c.at c.next e (cell_bytes c.key c.version.creator (Some d) c.version.pointer (part c.version.start c.version.len (page pool.old p))) (page pool.old p)) pool.old }
 {
     part_leaf(pool, p, q, page::HEADER_SIZE + cut.bytes, e);
     let b = q as usize * PAGE_SIZE;
@@ -146,9 +129,9 @@ pub fn stamp_divide_left(
     d: u64,
 )
     requires p_lt_q { (p < q) × (q * 4096 + 4096 ≤ length pool.old) × (page pool.old q ≡ zeros 4096) }
-    requires at_value { (cell_at (page pool.old p) c.at ≡ CellRead.Got c) × (c.version.stamp ≡ Stamp.Absent) × (12 ≤ c.at) × (e ≤ 4096) }
+    requires at_value { (cell_at (page pool.old p) c.at ≡ Ok c) × (c.version.stamp ≡ None) × (12 ≤ c.at) × (e ≤ 4096) }
     requires next_bound { (c.next + 8 ≤ 12 + cut.bytes) × (12 + cut.bytes ≤ e + 8) × (12 + cut.bytes ≤ 4096) × (n < 65536) × (cut.cells ≤ n) }
-    ensures { pool.new ≡ divided p q n cut (spliced c.at c.next e (cell_bytes c.key c.version.creator (Stamp.By d) c.version.pointer (part c.version.start c.version.len (page pool.old p))) (page pool.old p)) pool.old }
+    ensures { pool.new ≡ divided p q n cut (spliced c.at c.next e (cell_bytes c.key c.version.creator (Some d) c.version.pointer (part c.version.start c.version.len (page pool.old p))) (page pool.old p)) pool.old }
 {
     let mid = page::HEADER_SIZE + cut.bytes - 8;
     part_leaf(pool, p, q, mid, e);

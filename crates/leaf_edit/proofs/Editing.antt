@@ -1,5 +1,6 @@
 -- The stores of the edits of a leaf page, which together are the page with some bytes of its cells replaced.
 -- Assumes nothing.
+use Rattle.std.proofs.Common.{Option, Some, None, Ok}
 use mathlib.Core.Path.{◌≡◌, refl, sym, ap, ◌∙◌}
 use mathlib.Core.List.{List, [], ◌∷◌, ◌++◌, append_assoc}
 use Prim.Native.Nat.{ℕ, ◌+◌, ◌-◌, ◌≤◌}
@@ -11,10 +12,8 @@ use Rattle.store.specs.Part.{part, put, zeros, pad, spliced}
 use Rattle.page.specs.Key.{flip, key_bytes}
 use Rattle.row.specs.Read.{cell_at}
 use Rattle.row.specs.Write.{stamp_len, pointer_len, stamp_bytes, pointer_bytes, cell_size, head_bytes, cell_bytes}
-use Rattle.row.specs.declared.Stamp.{Stamp}
 use Rattle.row.specs.declared.Pointer.{Pointer}
 use Rattle.row.specs.declared.Cell.{Cell}
-use Rattle.row.specs.declared.read.CellRead.{CellRead}
 use Rattle.leaf_edit.specs.Steps.Edit.{gapped}
 use Rattle.leaf_edit.specs.Edit.{with_stamp}
 use Rattle.store.proofs.LeLaws.{length-bytes_le, one_byte}
@@ -109,7 +108,7 @@ module _ (at key creator n₀ : ℕ) (s : List ℕ) where
       rw i at e₃
 
   head-stamped : (n d : ℕ) → at + 26 ≤ length s → part at 18 s ≡ head_bytes key n₀ creator ++ (0 ∷ [])
-      → head_stored at n d s ≡ put at (head_bytes key n creator ++ stamp_bytes (Stamp.By d)) s
+      → head_stored at n d s ≡ put at (head_bytes key n creator ++ stamp_bytes (Some d)) s
   unfolding head_bytes
   head-stamped n d h e =
       let mid : List ℕ = 129 ∷ bytes_le 8 creator in
@@ -129,7 +128,7 @@ module _ (at key creator n₀ : ℕ) (s : List ℕ) where
       (simp append_assoc (ap (λ (z : List ℕ). put at (key_bytes key ++ (bytes_le 4 n ++ (129 ∷ z))) s) (append_assoc (bytes_le 8 creator) (1 ∷ []) (bytes_le 8 d))))
 
 -- the bytes of a cell, head and stamp, then pointer and data
-cell_split : (at key creator : ℕ) (st : Stamp) (pt : Pointer) (body s : List ℕ) → part at (cell_size st pt (length body)) s ≡ cell_bytes key creator st pt body
+cell_split : (at key creator : ℕ) (st : Option ℕ) (pt : Option Pointer) (body s : List ℕ) → part at (cell_size st pt (length body)) s ≡ cell_bytes key creator st pt body
     → (part at (17 + stamp_len st) s ≡ head_bytes key (9 + stamp_len st + pointer_len pt + length body) creator ++ stamp_bytes st)
     × (part (at + (17 + stamp_len st)) (pointer_len pt + length body) s ≡ pointer_bytes pt ++ body)
 unfolding cell_bytes
@@ -149,44 +148,44 @@ spliced_more a b c e x y s h k p =
     let j : b + (c - b) ≡ c = omega arith in
     rw (i, part_add b (c - b) (e - c) s, j, p) (simp append_assoc)
 
-module _ (at e key creator d : ℕ) (pt : Pointer) (body pg : List ℕ) (len : length pg ≡ 4096) where
+module _ (at e key creator d : ℕ) (pt : Option Pointer) (body pg : List ℕ) (len : length pg ≡ 4096) where
   -- head and stamp replaced, of a cell with the stamp st
-  whole-cell : (st : Stamp) → at + cell_size st pt (length body) ≤ e → part at (cell_size st pt (length body)) pg ≡ cell_bytes key creator st pt body
-      → spliced at (at + (17 + stamp_len st)) e (head_bytes key (18 + pointer_len pt + length body) creator ++ stamp_bytes (Stamp.By d)) pg
-      ≡ spliced at (at + cell_size st pt (length body)) e (cell_bytes key creator (Stamp.By d) pt body) pg
+  whole-cell : (st : Option ℕ) → at + cell_size st pt (length body) ≤ e → part at (cell_size st pt (length body)) pg ≡ cell_bytes key creator st pt body
+      → spliced at (at + (17 + stamp_len st)) e (head_bytes key (18 + pointer_len pt + length body) creator ++ stamp_bytes (Some d)) pg
+      ≡ spliced at (at + cell_size st pt (length body)) e (cell_bytes key creator (Some d) pt body) pg
   unfolding cell_bytes
   whole-cell st h q =
       let i : at + cell_size st pt (length body) - (at + (17 + stamp_len st)) ≡ pointer_len pt + length body = omega arith in
-      let x = head_bytes key (18 + pointer_len pt + length body) creator ++ stamp_bytes (Stamp.By d) in
+      let x = head_bytes key (18 + pointer_len pt + length body) creator ++ stamp_bytes (Some d) in
       spliced_more at (at + (17 + stamp_len st)) (at + cell_size st pt (length body)) e x (pointer_bytes pt ++ body) pg (omega arith) h
       (rw i (cell_split at key creator st pt body pg q).1)
-      ∙ ap (λ (z : List ℕ). spliced at (at + cell_size st pt (length body)) e z pg) (append_assoc (head_bytes key (18 + pointer_len pt + length body) creator) (stamp_bytes (Stamp.By d)) (pointer_bytes pt ++ body))
+      ∙ ap (λ (z : List ℕ). spliced at (at + cell_size st pt (length body)) e z pg) (append_assoc (head_bytes key (18 + pointer_len pt + length body) creator) (stamp_bytes (Some d)) (pointer_bytes pt ++ body))
 
   -- a live cell grows
-  pub stamp-grown : (n : ℕ) → at + cell_size Stamp.Absent pt (length body) ≤ e → e + 8 ≤ 4096 → n ≡ 18 + pointer_len pt + length body
-      → part at (cell_size Stamp.Absent pt (length body)) pg ≡ cell_bytes key creator Stamp.Absent pt body
-      → grown at e n d pg ≡ pad 4096 (spliced at (at + cell_size Stamp.Absent pt (length body)) e (cell_bytes key creator (Stamp.By d) pt body) pg)
+  pub stamp-grown : (n : ℕ) → at + cell_size None pt (length body) ≤ e → e + 8 ≤ 4096 → n ≡ 18 + pointer_len pt + length body
+      → part at (cell_size None pt (length body)) pg ≡ cell_bytes key creator None pt body
+      → grown at e n d pg ≡ pad 4096 (spliced at (at + cell_size None pt (length body)) e (cell_bytes key creator (Some d) pt body) pg)
   stamp-grown n h k i q =
       let g = gapped (at + 18) (at + 18) e 8 pg in
       let lg : length g ≡ 4096 = length-gapped (at + 18) (at + 18) e 8 pg len (omega arith) (omega arith) (omega arith) (omega arith) in
-      let x = head_bytes key n creator ++ stamp_bytes (Stamp.By d) in
-      let lx : length x ≡ 26 = rw (length-append, length-head, length-stamp (Stamp.By d)) in
+      let x = head_bytes key n creator ++ stamp_bytes (Some d) in
+      let lx : length x ≡ 26 = rw (length-append, length-head, length-stamp (Some d)) in
       let same : part at 18 g ≡ part at 18 pg = part-gapped (at + 18) (at + 18) e 8 pg at 18 len (omega arith) (omega arith) (omega arith) (omega arith) (omega arith) in
-      head-stamped at key creator (10 + pointer_len pt + length body) g n d (omega arith) (same ∙ (cell_split at key creator Stamp.Absent pt body pg q).0)
+      head-stamped at key creator (10 + pointer_len pt + length body) g n d (omega arith) (same ∙ (cell_split at key creator None pt body pg q).0)
       ∙ gap_filled at (at + 18) (at + 18) e 8 x pg len (omega arith) (omega arith) (omega arith) (omega arith) (omega arith) (omega arith)
-      ∙ rw i (ap (pad 4096) (whole-cell Stamp.Absent h q))
+      ∙ rw i (ap (pad 4096) (whole-cell None h q))
 
   -- a stamp over a stamp
-  stamp_kept : (t : ℕ) → at + cell_size (Stamp.By t) pt (length body) ≤ e → e ≤ 4096
-      → part at (cell_size (Stamp.By t) pt (length body)) pg ≡ cell_bytes key creator (Stamp.By t) pt body
+  stamp_kept : (t : ℕ) → at + cell_size (Some t) pt (length body) ≤ e → e ≤ 4096
+      → part at (cell_size (Some t) pt (length body)) pg ≡ cell_bytes key creator (Some t) pt body
       → put e (zeros (4096 - e)) (put_at 8 pg (at + 18) d)
-      ≡ pad 4096 (spliced at (at + cell_size (Stamp.By t) pt (length body)) e (cell_bytes key creator (Stamp.By d) pt body) pg)
+      ≡ pad 4096 (spliced at (at + cell_size (Some t) pt (length body)) e (cell_bytes key creator (Some d) pt body) pg)
   stamp_kept t h k q =
       let hd = head_bytes key (18 + pointer_len pt + length body) creator in
-      let x = hd ++ stamp_bytes (Stamp.By d) in
-      let lx : length x ≡ 26 = rw (length-append, length-head, length-stamp (Stamp.By d)) in
+      let x = hd ++ stamp_bytes (Some d) in
+      let lx : length x ≡ 26 = rw (length-append, length-head, length-stamp (Some d)) in
       let lh : length (hd ++ (1 ∷ [])) ≡ 18 = rw (length-append, length-head) in
-      let f : part at (18 + 8) pg ≡ (hd ++ (1 ∷ [])) ++ bytes_le 8 t = (cell_split at key creator (Stamp.By t) pt body pg q).0 ∙ simp append_assoc in
+      let f : part at (18 + 8) pg ≡ (hd ++ (1 ∷ [])) ++ bytes_le 8 t = (cell_split at key creator (Some t) pt body pg q).0 ∙ simp append_assoc in
       let first : part at 18 pg ≡ hd ++ (1 ∷ []) = part-first at 18 8 (hd ++ (1 ∷ [])) (bytes_le 8 t) pg lh f in
       let stored : put_at 8 pg (at + 18) d ≡ put at x pg
       = put_at-put 8 (at + 18) d pg (omega arith) ∙ put-inside at 18 (bytes_le 8 d) pg (rw length-bytes_le (omega arith)) ∙ rw first (simp append_assoc) in
@@ -195,32 +194,32 @@ module _ (at e key creator d : ℕ) (pt : Pointer) (body pg : List ℕ) (len : l
       let z : put e (zeros (4096 - e)) (put at x pg) ≡ put (at + length x + (e - (at + 26))) (zeros (length pg - (at + length x + (e - (at + 26))))) (put at x pg) = rw (lx, len, j) in
       let done : put e (zeros (4096 - e)) (put at x pg) ≡ pad 4096 (spliced at (at + 26) e x pg)
       = rw len at (z ∙ splice-done pg at (at + 26) e x (omega arith) (omega arith) (omega arith) (omega arith) still refl refl) in
-      rw stored (done ∙ ap (pad 4096) (whole-cell (Stamp.By t) h q))
+      rw stored (done ∙ ap (pad 4096) (whole-cell (Some t) h q))
 
 -- a cell that is read in the page: where it ends, and its bytes
 abbrev pub body_of : Cell → List ℕ → List ℕ
 body_of c pg = part c.version.start c.version.len pg
 
-module _ (c : Cell) (pg : List ℕ) (B : AreBytes pg) (got : cell_at pg c.at ≡ CellRead.Got c) where
-  pub cell-ends : {st : Stamp} → c.version.stamp ≡ st → c.next ≡ c.at + cell_size st c.version.pointer (length (body_of c pg))
+module _ (c : Cell) (pg : List ℕ) (B : AreBytes pg) (got : cell_at pg c.at ≡ Ok c) where
+  pub cell-ends : {st : Option ℕ} → c.version.stamp ≡ st → c.next ≡ c.at + cell_size st c.version.pointer (length (body_of c pg))
   cell-ends e =
       let p = cell_placed pg c.at c got in
       rw (← e, length_part c.version.start c.version.len pg (omega arith)) (ap (λ (x : Cell). x.next) (read_is-written pg c.at c B got).place)
 
-  pub cell-bytes : {st : Stamp} → c.version.stamp ≡ st
+  pub cell-bytes : {st : Option ℕ} → c.version.stamp ≡ st
       → part c.at (cell_size st c.version.pointer (length (body_of c pg))) pg ≡ cell_bytes c.key c.version.creator st c.version.pointer (body_of c pg)
   cell-bytes e =
       let p = cell_placed pg c.at c got in
       rw (← e, length_part c.version.start c.version.len pg (omega arith)) (read_is-written pg c.at c B got).bytes
 
-  pub with_stamp-grown : (e d n : ℕ) → length pg ≡ 4096 → c.version.stamp ≡ Stamp.Absent → c.next ≤ e → e + 8 ≤ 4096 → n ≡ c.next - c.at
+  pub with_stamp-grown : (e d n : ℕ) → length pg ≡ 4096 → c.version.stamp ≡ None → c.next ≤ e → e + 8 ≤ 4096 → n ≡ c.next - c.at
       → grown c.at e n d pg ≡ with_stamp d e c pg
   unfolding with_stamp
   with_stamp-grown e d n len st h k i =
       let u = cell-ends st in
       rw u (stamp-grown c.at e c.key c.version.creator d c.version.pointer (body_of c pg) pg len n (omega arith) k (omega arith) (cell-bytes st))
 
-  pub with_stamp_kept : (e d : ℕ) {t : ℕ} → length pg ≡ 4096 → c.version.stamp ≡ Stamp.By t → c.next ≤ e → e ≤ 4096
+  pub with_stamp_kept : (e d : ℕ) {t : ℕ} → length pg ≡ 4096 → c.version.stamp ≡ Some t → c.next ≤ e → e ≤ 4096
       → put e (zeros (4096 - e)) (put_at 8 pg (c.at + 18) d) ≡ with_stamp d e c pg
   unfolding with_stamp
   with_stamp_kept e d {t} len st h k =

@@ -1,9 +1,8 @@
 -- Edits of a leaf page, each by its bytes (document 01, sections 2 and 5); laws say each again over rows.
-use Rattle.std.specs.Prelude.{List, [], ℕ, ◌+◌, ◌-◌}
+use Rattle.std.specs.Prelude.{List, [], ℕ, ◌+◌, ◌-◌, Some}
 use Rattle.store.specs.Part.{part, pad, spliced}
 use Rattle.page.specs.Header.{with_count}
 use Rattle.row.specs.Write.{cell_bytes}
-use Rattle.row.specs.declared.Stamp.{Stamp}
 use Rattle.row.specs.declared.Cell.{Cell}
 
 -- the page, whose n cells end at e, with a cell's bytes x put in at `at`
@@ -15,7 +14,7 @@ unfoldable pub with_stamp : (d e : ℕ) → Cell → List ℕ → List ℕ
 with_stamp d e c pg =
     pad 4096
     (spliced c.at c.next e
-    (cell_bytes c.key c.version.creator (Stamp.By d) c.version.pointer (part c.version.start c.version.len pg))
+    (cell_bytes c.key c.version.creator (Some d) c.version.pointer (part c.version.start c.version.len pg))
     pg)
 
 -- the page, whose n cells end at e, without the k cells that stand from a to b

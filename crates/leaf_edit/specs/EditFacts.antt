@@ -1,9 +1,8 @@
 -- What is proved of the edits of a leaf: each says again over rows what sections 2 and 5 say. A sound leaf is one that was
 -- judged, its cells ending at e.
-use Rattle.std.specs.Prelude.{◌≡◌, List, ◌∷◌, ◌++◌, map, ℕ, ◌+◌, ◌≤◌, length, take, drop}
+use Rattle.std.specs.Prelude.{◌≡◌, List, ◌∷◌, ◌++◌, map, ℕ, ◌+◌, ◌≤◌, length, take, drop, Some}
 use Rattle.page.specs.Header.{cell_count, header_size}
 use Rattle.row.specs.Write.{stamp_len}
-use Rattle.row.specs.declared.Stamp.{Stamp}
 use Rattle.row.specs.declared.Cell.{Cell}
 use Rattle.leaf.specs.Cells.{cells}
 use Rattle.leaf.specs.Rows.{Row, RowFits, row_of, rows, row_size, row_bytes, rows_bytes, write_rows}
@@ -24,7 +23,7 @@ InsertInserts =
 
 -- a cell that is stamped is that row stamped
 abbrev pub stamp_row : ℕ → Row → Row
-stamp_row d r = record { key = r.key; creator = r.creator; stamp = Stamp.By d; pointer = r.pointer; body = r.body }
+stamp_row d r = record { key = r.key; creator = r.creator; stamp = Some d; pointer = r.pointer; body = r.body }
 
 abbrev pub StampStamps : Type 0
 StampStamps =

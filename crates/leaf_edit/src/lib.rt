@@ -2,16 +2,16 @@
 // move of the tail and the count, zeros after the last cell, bytes 8 to 11 kept. No buffer ever holds a cell.
 #![tactic(auto)]
 
-ghost use Rattle.std.specs.Prelude.{◌≡◌, ◌+◌, ◌-◌, ◌≤◌, ◌<◌, length};
+ghost use Rattle.std.specs.Prelude.{◌≡◌, ◌+◌, ◌-◌, ◌≤◌, ◌<◌, length, Ok};
 ghost use Rattle.store.specs.Le.{put_at};
 ghost use Rattle.store.specs.Part.{pad, spliced};
 ghost use Rattle.row.specs.Read.{cell_at};
-ghost use Rattle.row.specs.Write.{cell_size, cell_bytes, stamp_len};
-ghost use Rattle.row.specs.declared.read.CellRead.{CellRead};
+ghost use Rattle.row.specs.Write.{stamp_len};
+ghost use Rattle.row.specs.Row.{row_size, row_bytes};
 ghost use Rattle.leaf_edit.specs.Steps.Edit.{gapped};
 ghost use Rattle.leaf_edit.specs.Edit.{with_cell, with_stamp, without};
 
-use row::{Cell, Pointer, Stamp};
+use row::{Cell, NewVersion};
 
 // A gap of m bytes in the place of the bytes from a to b, of cells that end at e.
 pub fn open_gap(pg: &mut [u8], a: usize, b: usize, e: usize, m: usize)
@@ -24,40 +24,21 @@ pub fn open_gap(pg: &mut [u8], a: usize, b: usize, e: usize, m: usize)
 }
 
 // The bytes of a new cell at `at`, of cells that end at e.
-pub fn put_cell(
-    pg: &mut [u8],
-    at: usize,
-    e: usize,
-    key: u32,
-    creator: u64,
-    stamp: Stamp,
-    pointer: Pointer,
-    body: &[u8],
-)
-    requires { (length pg.old ≡ 4096) × (at ≤ e) × (length body.now ≤ 4051) × (e + cell_size stamp pointer (length body.now) ≤ 4096) }
-    ensures { pg.new ≡ pad 4096 (spliced at at e (cell_bytes key creator stamp pointer body.now) pg.old) }
+pub fn put_cell(pg: &mut [u8], at: usize, e: usize, version: &NewVersion<'_>)
+    requires { (length pg.old ≡ 4096) × (at ≤ e) × (length version.now.body ≤ 4051) × (e + row_size version.now ≤ 4096) }
+    ensures { pg.new ≡ pad 4096 (spliced at at e (row_bytes version.now) pg.old) }
 {
-    let m = row::write::cell_size(stamp, pointer, body.len());
+    let m = version.size();
     open_gap(pg, at, at, e, m);
-    row::write::write_cell(&mut pg[at..], key, creator, stamp, pointer, body);
+    row::write::write_cell(&mut pg[at..], version);
 }
 
 // A new cell at `at`, of n cells that end at e.
-pub fn insert_cell(
-    pg: &mut [u8],
-    at: usize,
-    e: usize,
-    n: usize,
-    key: u32,
-    creator: u64,
-    stamp: Stamp,
-    pointer: Pointer,
-    body: &[u8],
-)
-    requires { (length pg.old ≡ 4096) × (12 ≤ at) × (at ≤ e) × (n < 65535) × (length body.now ≤ 4051) × (e + cell_size stamp pointer (length body.now) ≤ 4096) }
-    ensures { pg.new ≡ with_cell at e n (cell_bytes key creator stamp pointer body.now) pg.old }
+pub fn insert_cell(pg: &mut [u8], at: usize, e: usize, n: usize, version: &NewVersion<'_>)
+    requires { (length pg.old ≡ 4096) × (12 ≤ at) × (at ≤ e) × (n < 65535) × (length version.now.body ≤ 4051) × (e + row_size version.now ≤ 4096) }
+    ensures { pg.new ≡ with_cell at e n (row_bytes version.now) pg.old }
 {
-    put_cell(pg, at, e, key, creator, stamp, pointer, body);
+    put_cell(pg, at, e, version);
     page::set_cell_count(pg, (n + 1) as u16);
 }
 
@@ -83,17 +64,14 @@ pub fn grow_stamp(pg: &mut [u8], at: usize, e: usize, n: u32, d: u64)
 
 // The stamp of d on the cell c, of cells that end at e: 8 bytes more, or over the stamp that is there.
 pub fn stamp_cell(pg: &mut [u8], e: usize, c: Cell, d: u64)
-    requires { (length pg.old ≡ 4096) × (cell_at pg.old c.at ≡ CellRead.Got c) × (12 ≤ c.at) × (c.next ≤ e) × (e + 9 ≤ 4096 + stamp_len c.version.stamp) }
+    requires { (length pg.old ≡ 4096) × (cell_at pg.old c.at ≡ Ok c) × (12 ≤ c.at) × (c.next ≤ e) × (e + 9 ≤ 4096 + stamp_len c.version.stamp) }
     ensures { pg.new ≡ with_stamp d e c pg.old }
 {
-    let at = c.at;
-    let v = c.version;
-    let stamp = v.stamp;
-    match stamp {
-        Stamp::By(_) => {
-            store::put64(pg, at + 18, d);
+    match c.version.stamp {
+        Some(_) => {
+            store::put64(pg, c.at + 18, d);
             store::run::zero_fill(pg, e, page::PAGE_SIZE);
         }
-        Stamp::Absent => grow_stamp(pg, at, e, (c.next - at) as u32, d),
+        None => grow_stamp(pg, c.at, e, (c.next - c.at) as u32, d),
     }
 }

@@ -1,5 +1,6 @@
 -- The edits of a vacuum, on a page whose cells from some offset on are the bytes of rows: what each leaves, and what the
 -- loop over the cells does from one to the next. Assumes nothing.
+use Rattle.std.proofs.Common.{Option, Some, None, Result, Ok, Err}
 use mathlib.Core.Path.{◌≡◌, refl, sym, ap, ap₂, ◌∙◌, subst}
 use mathlib.Core.Bool.{Bool, true, false}
 use mathlib.Core.List.{List, [], ◌∷◌, ◌++◌, append_assoc}
@@ -16,10 +17,9 @@ use Rattle.page.specs.Key.{flip, key_bytes}
 use Rattle.row.specs.Read.{cell_at}
 use Rattle.row.specs.Write.{stamp_len, pointer_len, stamp_bytes, pointer_bytes, cell_size, head_bytes, cell_bytes}
 use Rattle.row.specs.Exact.{cell_of}
-use Rattle.row.specs.declared.Stamp.{Stamp}
 use Rattle.row.specs.declared.Pointer.{Pointer}
 use Rattle.row.specs.declared.Cell.{Cell}
-use Rattle.row.specs.declared.read.CellRead.{CellRead}
+use Rattle.row.specs.declared.CellFault.{CellFault}
 use Rattle.mvcc.specs.Rules.{of_deleter}
 use Rattle.mvcc.specs.Vacuum.{dropped, aborted_deleter, fate}
 use Rattle.mvcc.specs.declared.vacuum.Fate.{Fate}
@@ -86,24 +86,24 @@ module _ (at key creator n₀ : ℕ) (s : List ℕ) where
       (ap (λ (z : List ℕ). put at (z ++ (0 ∷ [])) s) (append_assoc (key_bytes key) (bytes_le 4 n) mid))
 
 -- a cell that was stamped by d
-cell-cleared : (at e n key creator d : ℕ) (pt : Pointer) (body pg : List ℕ) → length pg ≡ 4096 → at + cell_size (Stamp.By d) pt (length body) ≤ e → e ≤ 4096
-    → n ≡ 10 + pointer_len pt + length body → part at (cell_size (Stamp.By d) pt (length body)) pg ≡ cell_bytes key creator (Stamp.By d) pt body
+cell-cleared : (at e n key creator d : ℕ) (pt : Option Pointer) (body pg : List ℕ) → length pg ≡ 4096 → at + cell_size (Some d) pt (length body) ≤ e → e ≤ 4096
+    → n ≡ 10 + pointer_len pt + length body → part at (cell_size (Some d) pt (length body)) pg ≡ cell_bytes key creator (Some d) pt body
     → put_at 1 (put_at 4 (gapped (at + 18) (at + 26) e 0 pg) (at + 4) n) (at + 17) 0
-    ≡ pad 4096 (spliced at (at + cell_size (Stamp.By d) pt (length body)) e (cell_bytes key creator Stamp.Absent pt body) pg)
+    ≡ pad 4096 (spliced at (at + cell_size (Some d) pt (length body)) e (cell_bytes key creator None pt body) pg)
 unfolding cell_bytes spliced
 cell-cleared at e n key creator d pt body pg len h k i q =
-    let N = 9 + stamp_len (Stamp.By d) + pointer_len pt + length body in
+    let N = 9 + stamp_len (Some d) + pointer_len pt + length body in
     let m = pointer_len pt + length body in
     let rest = pointer_bytes pt ++ body in
-    let size : cell_size (Stamp.By d) pt (length body) ≡ 17 + (9 + m) = omega arith in
-    let next = at + cell_size (Stamp.By d) pt (length body) in
+    let size : cell_size (Some d) pt (length body) ≡ 17 + (9 + m) = omega arith in
+    let next = at + cell_size (Some d) pt (length body) in
     let lh = length-head key N creator in
-    let q₀ : part at (17 + (9 + m)) pg ≡ head_bytes key N creator ++ (stamp_bytes (Stamp.By d) ++ rest) = rw size at q in
-    let q₁ = part-first at 17 (9 + m) (head_bytes key N creator) (stamp_bytes (Stamp.By d) ++ rest) pg lh q₀ in
-    let q₂ = part_peel at 17 (9 + m) (head_bytes key N creator) (stamp_bytes (Stamp.By d) ++ rest) pg lh q₀ in
-    let ls : length (stamp_bytes (Stamp.By d)) ≡ 9 = rw length-bytes_le in
+    let q₀ : part at (17 + (9 + m)) pg ≡ head_bytes key N creator ++ (stamp_bytes (Some d) ++ rest) = rw size at q in
+    let q₁ = part-first at 17 (9 + m) (head_bytes key N creator) (stamp_bytes (Some d) ++ rest) pg lh q₀ in
+    let q₂ = part_peel at 17 (9 + m) (head_bytes key N creator) (stamp_bytes (Some d) ++ rest) pg lh q₀ in
+    let ls : length (stamp_bytes (Some d)) ≡ 9 = rw length-bytes_le in
     let j : at + 17 + 9 ≡ at + 26 = omega arith in
-    let q₃ : part (at + 26) m pg ≡ rest = rw j at (part_peel (at + 17) 9 m (stamp_bytes (Stamp.By d)) rest pg ls q₂) in
+    let q₃ : part (at + 26) m pg ≡ rest = rw j at (part_peel (at + 17) 9 m (stamp_bytes (Some d)) rest pg ls q₂) in
     let g = gapped (at + 18) (at + 26) e 0 pg in
     let lg : length g ≡ 4096 = length_closed (at + 18) (at + 26) e pg len (omega arith) (omega arith) k in
     let x = head_bytes key n creator ++ (0 ∷ []) in
@@ -119,7 +119,7 @@ cell-cleared at e n key creator d pt body pg len h k i q =
         let u : e - (at + 26) ≡ m + (e - next) = omega arith in
         rw (i, u, part_add (at + 26) m (e - next) pg, ← f, r) (simp append_assoc)
 
-module _ (c : Cell) (pg : List ℕ) (B : AreBytes pg) (got : cell_at pg c.at ≡ CellRead.Got c) (stamped : stamp_len c.version.stamp ≡ 9) where
+module _ (c : Cell) (pg : List ℕ) (B : AreBytes pg) (got : cell_at pg c.at ≡ Ok c) (stamped : stamp_len c.version.stamp ≡ 9) where
   -- a stamped cell is long enough
   pub stamped-long : c.at + 27 ≤ c.next
   stamped-long = let e = cell-ends c pg B got refl in let p = pointer_len_lem c.version.pointer in omega arith
@@ -129,11 +129,11 @@ module _ (c : Cell) (pg : List ℕ) (B : AreBytes pg) (got : cell_at pg c.at ≡
   unfolding without_stamp
   stamp_off e n len h k i = by_stamp c.version.stamp refl stamped
     where
-      by_stamp : (st : Stamp) → c.version.stamp ≡ st → stamp_len st ≡ 9
+      by_stamp : (st : Option ℕ) → c.version.stamp ≡ st → stamp_len st ≡ 9
           → put_at 1 (put_at 4 (gapped (c.at + 18) (c.at + 26) e 0 pg) (c.at + 4) n) (c.at + 17) 0
-          ≡ pad 4096 (spliced c.at c.next e (cell_bytes c.key c.version.creator Stamp.Absent c.version.pointer (body_of c pg)) pg)
-      by_stamp Stamp.Absent q l = absurd (omega arith)
-      by_stamp (Stamp.By d) q l =
+          ≡ pad 4096 (spliced c.at c.next e (cell_bytes c.key c.version.creator None c.version.pointer (body_of c pg)) pg)
+      by_stamp None q l = absurd (omega arith)
+      by_stamp (Some d) q l =
           let u = cell-ends c pg B got q in
           rw u (cell-cleared c.at e n c.key c.version.creator d c.version.pointer (body_of c pg) pg len (omega arith) k (omega arith) (cell-bytes c pg B got q))
 
@@ -195,7 +195,7 @@ module _ {h : List ℕ} {r : Row} {rs : List Row} {s : List ℕ} (p : Holds h (r
   size_row = length-cell r.key r.creator r.stamp r.pointer r.body
 
   -- the first one is read
-  pub cell-first : cell_at s (length h) ≡ CellRead.Got (cell_of (length h) r.key r.creator r.stamp r.pointer (length r.body))
+  pub cell-first : cell_at s (length h) ≡ Ok (cell_of (length h) r.key r.creator r.stamp r.pointer (length r.body))
   cell-first =
       let f = p.fits.0 in
       let l = size-first in
@@ -282,7 +282,7 @@ pub record Left (n at e : ℕ) (s : List ℕ) : Type 0 where
 -- past the cell c, whatever becomes of it
 pub record Next (n at e : ℕ) (s : List ℕ) (c : Cell) : Type 0 where
   pub here : c.at ≡ at
-  pub got : cell_at s c.at ≡ CellRead.Got c
+  pub got : cell_at s c.at ≡ Ok c
   pub low : 12 ≤ at
   pub long : at + 19 ≤ c.next
   pub inside : c.next ≤ e
@@ -291,7 +291,7 @@ pub record Next (n at e : ℕ) (s : List ℕ) (c : Cell) : Type 0 where
   pub dropped : (k : ℕ) → Left (n - 1) at (e - (c.next - c.at)) (without at c.next 1 e k s)
   pub cleared : stamp_len c.version.stamp ≡ 9 → Left (n - 1) (c.next - 8) (e - 8) (without_stamp e c s)
 
-pub left-next : (n at e : ℕ) (s : List ℕ) {r : CellRead} {c : Cell} → Left n at e s → 0 < n → r ≡ cell_at s at → r ≡ CellRead.Got c → Next n at e s c
+pub left-next : (n at e : ℕ) (s : List ℕ) {r : Result Cell CellFault} {c : Cell} → Left n at e s → 0 < n → r ≡ cell_at s at → r ≡ Ok c → Next n at e s c
 left-next n at e s {r} {c} l pos asked got = by_rows l.head l.rs l.stands
   where
     by_rows : (h : List ℕ) (rs : List Row) → Standing h rs s n at e → Next n at e s c
@@ -304,9 +304,9 @@ left-next n at e s {r} {c} l pos asked got = by_rows l.head l.rs l.stands
         let room = p.room in
         let header = p.header in
         let size = length-rows r rs in
-        let there : cell_at s (length h) ≡ CellRead.Got c = rw starts (sym asked ∙ got) in
+        let there : cell_at s (length h) ≡ Ok c = rw starts (sym asked ∙ got) in
         let cell = cell_of (length h) r.key r.creator r.stamp r.pointer (length r.body) in
-        let c-is : c ≡ cell = (let u : CellRead.Got c ≡ CellRead.Got cell = sym there ∙ cell-first p in cc) in
+        let c-is : c ≡ cell = (let u : Ok c ≡ Ok cell = sym there ∙ cell-first p in cc) in
         let next-is : c.next ≡ length h + row_size r = ap (λ (x : Cell). x.next) c-is in
         let at_is : c.at ≡ length h = ap (λ (x : Cell). x.at) c-is in
         let stamp-is : c.version.stamp ≡ r.stamp = ap (λ (x : Cell). x.version.stamp) c-is in
@@ -335,17 +335,17 @@ left-next n at e s {r} {c} l pos asked got = by_rows l.head l.rs l.stands
               λ nine.
               let h₁ = h ++ row_bytes (cleared_row r) in
               let short : stamp_len r.stamp ≡ 9 = rw stamp-is at nine in
-              let l : length h₁ ≡ length h + row_size (cleared_row r) = rw (length-append, length-cell r.key r.creator Stamp.Absent r.pointer r.body) in
+              let l : length h₁ ≡ length h + row_size (cleared_row r) = rw (length-append, length-cell r.key r.creator None r.pointer r.body) in
               let page : without_stamp e c s ≡ pad 4096 (h₁ ++ rows_bytes rs) = ap (λ (x : Cell). without_stamp e x s) c-is ∙ cleared-page p e all in
               let held : Holds h₁ rs (without_stamp e c s) = subst (Holds h₁ rs) (sym page) (written h₁ rs (omega arith) p.fits.1 (omega arith)) in
               record { head = h₁; rs = rs; stands = record { holds = held; starts = omega arith; ends = omega arith; count = omega arith } };
         }
 
 -- a stamp is cleared only where there is one
-pub cleared-stamped : (st : ℕ → ℕ) (bound creator : ℕ) (stamp : Stamp) {f : Fate} → f ≡ fate st bound creator stamp → f ≡ Fate.Cleared → stamp_len stamp ≡ 9
+pub cleared-stamped : (st : ℕ → ℕ) (bound creator : ℕ) (stamp : Option ℕ) {f : Fate} → f ≡ fate st bound creator stamp → f ≡ Fate.Cleared → stamp_len stamp ≡ 9
 unfolding fate aborted_deleter of_deleter
-cleared-stamped st bound creator (Stamp.By d) e q = refl
-cleared-stamped st bound creator Stamp.Absent e q = by_drop (dropped st bound creator Stamp.Absent) (sym e ∙ q)
+cleared-stamped st bound creator (Some d) e q = refl
+cleared-stamped st bound creator None e q = by_drop (dropped st bound creator None) (sym e ∙ q)
   where
     by_drop : (b : Bool) → pick b Fate.Dropped Fate.Same ≡ Fate.Cleared → ◌≡◌ {A = ℕ} 1 9
     by_drop true t = absurd (let z : ◌≡◌ {A = ℕ} 0 1 = cc in omega arith)
@@ -358,13 +358,13 @@ module _ (st : ℕ → ℕ) (bound at e k d : ℕ) (b : Bool) (pg : List ℕ) wh
   sweep-done zero h = refl
   sweep-done (suc n) h = absurd (omega arith)
 
-  pub sweep_bad : (n : ℕ) {r : CellRead} {kind : ℕ} → r ≡ cell_at pg at → r ≡ CellRead.Bad kind
+  pub sweep_bad : (n : ℕ) {r : Result Cell CellFault} {kind : CellFault} → r ≡ cell_at pg at → r ≡ Err kind
       → sweep st bound n at e k d b pg ≡ record { page = pg; told = record { dropped = d; changed = b } }
   unfolding sweep
   sweep_bad zero asked got = refl
   sweep_bad (suc n) asked got = rw (sym asked ∙ got)
 
-  module _ {r : CellRead} {c : Cell} {f : Fate} (asked : r ≡ cell_at pg at) (got : r ≡ CellRead.Got c)
+  module _ {r : Result Cell CellFault} {c : Cell} {f : Fate} (asked : r ≡ cell_at pg at) (got : r ≡ Ok c)
       (told : f ≡ fate st bound c.version.creator c.version.stamp) where
     pub sweep-same : (n : ℕ) → 0 < n → f ≡ Fate.Same → sweep st bound (n - 1) c.next e k d b pg ≡ sweep st bound n at e k d b pg
     unfolding sweep

@@ -1,5 +1,6 @@
 -- The facts of specs/Steps/VacuumFacts: what a sweep leaves of a page that holds rows, and so of a leaf that was judged.
 -- Assumes nothing.
+use Rattle.std.proofs.Common.{None}
 use mathlib.Core.Path.{◌≡◌, refl, sym, ap, ◌∙◌}
 use mathlib.Core.Bool.{Bool, true, false, ◌||◌}
 use mathlib.Core.List.{List, [], ◌∷◌, ◌++◌, append_assoc}
@@ -14,7 +15,6 @@ use Rattle.page.specs.Header.{cell_count, with_count}
 use Rattle.row.specs.Read.{cell_at}
 use Rattle.row.specs.Exact.{cell_of}
 use Rattle.row.specs.declared.Cell.{Cell}
-use Rattle.row.specs.declared.Stamp.{Stamp}
 use Rattle.mvcc.specs.Vacuum.{fate}
 use Rattle.mvcc.specs.declared.vacuum.Fate.{Fate}
 use Rattle.leaf.specs.Rows.{Row, row_size, row_bytes, rows_bytes, rows, write_rows}
@@ -107,7 +107,7 @@ module _ (st : ℕ → ℕ) (bound : ℕ) where
           let room = p.room in
           let header = p.header in
           let nine = cleared-stamped st bound r.creator r.stamp {f = Fate.Cleared} (sym e) refl in
-          let l : length h₁ ≡ length h + row_size (cleared_row r) = rw (length-append, length-cell r.key r.creator Stamp.Absent r.pointer r.body) in
+          let l : length h₁ ≡ length h + row_size (cleared_row r) = rw (length-append, length-cell r.key r.creator None r.pointer r.body) in
           let s₁ = pad 4096 (h₁ ++ rows_bytes rs) in
           let i : cell.next - 8 ≡ length h₁ = omega arith in
           let j : E - 8 ≡ length h₁ + length (rows_bytes rs) = omega arith in

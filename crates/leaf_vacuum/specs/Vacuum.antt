@@ -1,8 +1,7 @@
 -- Vacuum of one leaf (document 01, section 5): "drops a version whose creator is aborted, or whose deleter is below the
 -- given bound and committed in the list; of those kept, an aborted deleter's stamp is cleared. It rewrites only leaves it
 -- changed and counts those dropped."
-use Rattle.std.specs.Prelude.{Bool, true, false, List, [], ◌∷◌, ℕ, ◌+◌}
-use Rattle.row.specs.declared.Stamp.{Stamp}
+use Rattle.std.specs.Prelude.{Bool, true, false, List, [], ◌∷◌, ℕ, ◌+◌, None}
 use Rattle.mvcc.specs.Vacuum.{fate}
 use Rattle.mvcc.specs.declared.vacuum.Fate.{Fate}
 use Rattle.leaf.specs.Rows.{Row, rows, write_rows}
@@ -10,7 +9,7 @@ use Rattle.leaf_vacuum.specs.declared.Vacuumed.{Vacuumed}
 use Rattle.store.specs.Pick.{pick}
 
 abbrev pub cleared_row : Row → Row
-cleared_row r = record { key = r.key; creator = r.creator; stamp = Stamp.Absent; pointer = r.pointer; body = r.body }
+cleared_row r = record { key = r.key; creator = r.creator; stamp = None; pointer = r.pointer; body = r.body }
 
 abbrev pub on_fate : {A : Type 0} → A → A → A → Fate → A
 on_fate dropped cleared same Fate.Dropped = dropped

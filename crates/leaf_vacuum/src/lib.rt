@@ -1,18 +1,16 @@
 // Vacuum of one leaf (document 01, section 5; btree.rs, vacuum_deleted_versions): cell by cell in place on the lent page.
 #![tactic(auto)]
 
-ghost use Rattle.std.specs.Prelude.{◌≡◌, false, ◌≤◌, ◌<◌, length};
+ghost use Rattle.std.specs.Prelude.{◌≡◌, false, ◌≤◌, ◌<◌, length, Ok};
 ghost use Rattle.row.specs.Read.{cell_at};
 ghost use Rattle.row.specs.Write.{stamp_len};
-ghost use Rattle.row.specs.declared.read.CellRead.{CellRead};
-ghost use Rattle.mvcc.specs.Snapshot.{lookup, statuses};
-ghost use Rattle.mvcc.specs.Steps.Snapshot.{StatusesJudged};
+ghost use Rattle.mvcc.specs.Snapshot.{lookup};
 ghost use Rattle.page.specs.Header.{cell_count};
 ghost use Rattle.leaf.specs.Cells.{judge_leaf};
-ghost use Rattle.leaf.specs.declared.Judged.{Judged};
 ghost use Rattle.leaf_vacuum.specs.Vacuum.{vacuumed_leaf};
 ghost use Rattle.leaf_vacuum.specs.Steps.Vacuum.{without_stamp};
 
+use mvcc::JudgedStatuses;
 use mvcc::vacuum::Fate;
 use row::Cell;
 
@@ -25,7 +23,7 @@ pub struct Vacuumed {
 
 // The stamp taken off the cell c, of cells that end at e: 8 bytes less.
 fn unstamp_cell(pg: &mut [u8], e: usize, c: Cell)
-    requires { (length pg.old ≡ 4096) × (cell_at pg.old c.at ≡ CellRead.Got c) × (12 ≤ c.at) × (c.next ≤ e) × (e ≤ 4096) × (stamp_len c.version.stamp ≡ 9) }
+    requires { (length pg.old ≡ 4096) × (cell_at pg.old c.at ≡ Ok c) × (12 ≤ c.at) × (c.next ≤ e) × (e ≤ 4096) × (stamp_len c.version.stamp ≡ 9) }
     ensures { pg.new ≡ without_stamp e c pg.old }
 {
     let at = c.at;
@@ -35,33 +33,29 @@ fn unstamp_cell(pg: &mut [u8], e: usize, c: Cell)
     store::put8(pg, at + 17, 0);
 }
 
-// The n cells of a leaf that was judged, which end at e.
+// Vacuum at that bound, in place, of the n cells of a leaf that was judged, which end at e: how many went, and whether the page
+// changed.
 pub fn vacuum_leaf(
     pg: &mut [u8],
-    ids: &[u64],
-    states: &[u8],
+    statuses: &JudgedStatuses<'_>,
     bound: u64,
     e: usize,
     n: usize,
 ) -> Vacuumed
-    requires { (length pg.old ≡ 4096) × StatusesJudged (statuses ids.now states.now) × (n ≡ cell_count pg.old) × (n < 65536) × (judge_leaf pg.old 0 ≡ Judged.Ok e) }
-    ensures { (result ≡ (vacuumed_leaf pg.old (lookup (statuses ids.now states.now)) bound).told)
-        × (pg.new ≡ (vacuumed_leaf pg.old (lookup (statuses ids.now states.now)) bound).page) }
+    requires { (length pg.old ≡ 4096) × (n ≡ cell_count pg.old) × (n < 65536) × (judge_leaf pg.old 0 ≡ Ok e) }
+    ensures { (result ≡ (vacuumed_leaf pg.old (lookup statuses.now) bound).told)
+        × (pg.new ≡ (vacuumed_leaf pg.old (lookup statuses.now) bound).page) }
 {
-    let mut left = n;
     let mut at = page::HEADER_SIZE;
     let mut end = e;
     let mut count = n;
     let mut dropped = 0;
     let mut changed = false;
-    while 0 < left {
-        let row::read::CellRead::Got(c) = row::read::read_cell(pg, at) else {
+    for _ in 0..n {
+        let Ok(c) = row::read::read_cell(pg, at) else {
             return Vacuumed { dropped, changed };
         };
-        let v = c.version;
-        let stamp = v.stamp;
-        left -= 1;
-        match mvcc::vacuum::fate_of(ids, states, bound, v.creator, stamp) {
+        match statuses.fate_of(bound, c.version.creator, c.version.stamp) {
             Fate::Same => at = c.next,
             Fate::Dropped => {
                 leaf_edit::take_out(pg, at, c.next, 1, end, count);

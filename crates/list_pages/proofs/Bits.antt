@@ -3,19 +3,33 @@ use mathlib.Core.Path.{◌≡◌, refl, sym, ap, ◌∙◌}
 use mathlib.Core.Bool.{Bool, true, false, ◌||◌, or-true, or-false}
 use mathlib.Core.List.{List}
 use mathlib.Core.Logic.{⊎_elim}
-use Prim.Native.Nat.{ℕ, zero, suc, ◌+◌, ◌/◌, ◌%◌, ◌<◌}
-use native.Mathlib.Nat.{div-div-eq-div-mul, zero-div}
+use Prim.Native.Nat.{ℕ, zero, suc, ◌+◌, ◌*◌, ◌/◌, ◌%◌, ◌^◌, ◌<◌}
+use native.Mathlib.Nat.{div-div-eq-div-mul, zero-div, pow-suc}
 use native.Mathlib.Omega.{arith}
 use borrow.Author.Tests.{eqb-true, eqb-false, eq-eqb, ne_eqb}
+use lib.Bits.{bit_and}
 use lib.Dec.{eqb}
-use lib.ListN.{length, get_or, length-replicate}
+use lib.ListN.{length, get_or, set, length-replicate}
+use Rattle.std.specs.Int.RustNames.{bit_or}
+use Rattle.std.specs.Int.Bits.{or_add_and}
+use Rattle.std.proofs.lemmas.Nat.Bits.{shr_and_one, and_pow}
+use Rattle.std.proofs.lemmas.List.{set-get_or}
 use Rattle.store.specs.Le.{le_at, put_at}
 use Rattle.store.specs.Part.{zeros}
-use Rattle.list_pages.specs.Steps.Table.{power, bit_at, with_bit}
+use Rattle.list_pages.specs.Steps.Table.{bit_at, with_bit}
 use Rattle.store.proofs.LeLaws.{length-put_at, le_at-put_at, le_at-put_at-below, le_at-put_at_above}
 use Rattle.store.proofs.PartLaws.{le_or_lt}
 
 -- ---- the bits of a number
+
+-- two to the i, by its clauses
+abbrev power : ℕ → ℕ
+power zero = 1
+power (suc n) = 2 * power n
+
+power_is : (i : ℕ) → 2 ^ i ≡ power i
+power_is zero = refl
+power_is (suc i) = let e = power_is i in pow-suc 2 i ∙ omega arith
 
 power_pos : (i : ℕ) → 0 < power i
 power_pos zero = omega arith
@@ -52,12 +66,12 @@ bit_other (suc i) (suc j) b n e = rw (halve_added i j b, halve j b) (bit_other i
 bit_clear : (seen : List ℕ) (p : ℕ) → bit_at seen p ≡ false → le_at 1 seen (p / 8) / power (p % 8) % 2 ≡ 0
 unfolding bit_at
 bit_clear seen p e =
-    let n = eqb-false (le_at 1 seen (p / 8) / power (p % 8) % 2) 1 e in
-    omega arith
+    let n = eqb-false (le_at 1 seen (p / 8) / 2 ^ (p % 8) % 2) 1 e in
+    rw (← power_is (p % 8)) (omega arith)
 
 bit_at_lem : (seen : List ℕ) (q b : ℕ) → le_at 1 seen (q / 8) ≡ b → bit_at seen q ≡ eqb (b / power (q % 8) % 2) 1
 unfolding bit_at
-bit_at_lem seen q b e = rw e
+bit_at_lem seen q b e = rw (e, power_is)
 
 bit_fits : (seen : List ℕ) (p : ℕ) → le_at 1 seen (p / 8) < 256 → bit_at seen p ≡ false → le_at 1 seen (p / 8) + power (p % 8) < 256
 bit_fits seen p l e = no_carry 8 (p % 8) (le_at 1 seen (p / 8)) (omega arith) l (bit_clear seen p e)
@@ -75,7 +89,7 @@ with_set seen p e = rw e
 
 with_clear : (seen : List ℕ) (p : ℕ) → bit_at seen p ≡ false → with_bit seen p ≡ put_at 1 seen (p / 8) (le_at 1 seen (p / 8) + power (p % 8))
 unfolding with_bit
-with_clear seen p e = rw e
+with_clear seen p e = rw (e, power_is)
 
 -- 8192 numbers, each a byte
 abbrev pub Table : List ℕ → Type 0
@@ -157,23 +171,50 @@ table_zero n e = (length-replicate n 0 ∙ e, λ a. omega (arith, number_zero n 
 pub bit_zero : (n q : ℕ) → bit_at (zeros n) q ≡ false
 bit_zero n q = bit_at_lem (zeros n) q 0 (number_zero n (q / 8)) ∙ ne_eqb (0 / power (q % 8) % 2) 1 (λ e. omega (arith, zero-div (power (q % 8))))
 
--- ---- the ways out of the readers and writers of the table
+-- ---- what the code reads and writes: the byte by its place, the bit by shifts
 
-pub power_some : {r : ℕ} (i : ℕ) → r ≡ power i → 0 < r
-power_some i e = omega (arith, power_pos i)
+power_small : (i : ℕ) → i < 8 → power i < 256
+power_small i h = let e = no_carry 8 i 0 h (omega arith) (rw (zero-div (power i))) in omega arith
+
+byte_is : (s : List ℕ) (a : ℕ) → get_or s a 0 ≡ le_at 1 s a
+unfolding le_at
+byte_is s a = omega arith
+
+put_byte : (s : List ℕ) (a x : ℕ) → x < 256 → put_at 1 s a x ≡ set s a x
+unfolding put_at
+put_byte s a x h = let e : x % 256 ≡ x = omega arith in rw e
+
+-- with a bit by `|`
+or_is : (k b : ℕ) → bit_or b (power k) + b / power k % 2 * power k ≡ b + power k
+or_is k b = rw (power_is k) at (rw (and_pow b k) at (or_add_and b (2 ^ k)))
+
+or_known : (k b : ℕ) → b / power k % 2 ≡ 1 → bit_or b (power k) ≡ b
+or_known k b q = let e = rw q at (or_is k b) in omega (arith, e)
+
+or_new : (k b : ℕ) → b / power k % 2 ≡ 0 → bit_or b (power k) ≡ b + power k
+or_new k b q = let e = rw q at (or_is k b) in omega (arith, e)
 
 module _ (seen : List ℕ) (p : ℕ) where
-  pub listed_read : {b x : ℕ} → b ≡ le_at 1 seen (p / 8) → x ≡ power (p % 8) → eqb (b / x % 2) 1 ≡ bit_at seen p
+  pub listed_read : eqb (bit_and (get_or seen (p / 8) 0 / 2 ^ (p % 8)) 1) 1 ≡ bit_at seen p
   unfolding bit_at
-  listed_read e q = rw (e, q)
+  listed_read = rw (shr_and_one, byte_is)
 
-  module _ {r : Bool} (said : r ≡ bit_at seen p) where
-    pub mark-known : r ≡ true → seen ≡ with_bit seen p
-    mark-known e = sym (with_set seen p (sym said ∙ e))
+  bit_known : bit_at seen p ≡ true → le_at 1 seen (p / 8) / power (p % 8) % 2 ≡ 1
+  unfolding bit_at
+  bit_known e = rw (← power_is (p % 8)) (eqb-true _ 1 e)
 
-    module _ (e : r ≡ false) {b x : ℕ} (byte : b ≡ le_at 1 seen (p / 8)) (weight : x ≡ power (p % 8)) where
-      pub mark-fits : b < 256 → b + x < 256
-      mark-fits l = rw (byte, weight) (bit_fits seen p (rw byte at l) (sym said ∙ e))
+  -- the bit's weight, as the shift gives it
+  weight : 1 * 2 ^ (p % 8) % 256 ≡ power (p % 8)
+  weight = let e = power_is (p % 8) in let l = power_small (p % 8) (omega arith) in omega arith
 
-      pub mark-new : {s : List ℕ} → s ≡ put_at 1 seen (p / 8) (b + x) → s ≡ with_bit seen p
-      mark-new q = q ∙ rw (byte, weight) (sym (with_clear seen p (sym said ∙ e)))
+  pub marked : get_or seen (p / 8) 0 < 256 → set seen (p / 8) (bit_or (get_or seen (p / 8) 0) (1 * 2 ^ (p % 8) % 256)) ≡ with_bit seen p
+  marked l = by_bit (bit_at seen p) refl
+    where
+      by_bit : (b : Bool) → bit_at seen p ≡ b → set seen (p / 8) (bit_or (get_or seen (p / 8) 0) (1 * 2 ^ (p % 8) % 256)) ≡ with_bit seen p
+      by_bit true e =
+          let known : get_or seen (p / 8) 0 / power (p % 8) % 2 ≡ 1 = rw byte_is (bit_known e) in
+          rw (weight, or_known _ _ known, set-get_or) (sym (with_set seen p e))
+      by_bit false e =
+          let clear : get_or seen (p / 8) 0 / power (p % 8) % 2 ≡ 0 = rw byte_is (bit_clear seen p e) in
+          let fits = bit_fits seen p (rw byte_is at l) e in
+          rw (weight, or_new _ _ clear, byte_is) (sym (with_clear seen p e ∙ put_byte seen (p / 8) _ fits))

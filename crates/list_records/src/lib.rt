@@ -1,19 +1,9 @@
-// What all listings share (document 01, sections 2 and 6): how one ends, and its records at the start of the output.
+// What all listings share (document 01, sections 2 and 6): its records at the start of the output.
 #![tactic(auto)]
 
 ghost use Rattle.std.specs.Prelude.{◌≡◌, ◌+◌, ◌≤◌, ◌<◌, length};
 ghost use Rattle.store.specs.Part.{put};
 ghost use Rattle.row.specs.Write.{record_bytes};
-
-use row::Fault;
-
-// How a listing ends: its length; or the output is too short for it; or the first fault that was met.
-#[derive(Clone, Copy)]
-pub enum Listing {
-    Done(usize),
-    Short,
-    Bad(Fault),
-}
 
 // Length and kind before each record's content.
 pub const RECORD_HEAD: usize = 6;

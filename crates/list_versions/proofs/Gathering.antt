@@ -1,5 +1,6 @@
 -- The walk along the chain that gathers the listed rows: the ways out of the walk that measures the listing, and of the one
 -- that writes it. Both carry the rows that were gathered so far. Assumes nothing.
+use Rattle.std.proofs.Common.{Result, Ok, Err}
 use mathlib.Core.Path.{◌≡◌, refl, sym, ap, ◌∙◌}
 use mathlib.Core.Bool.{Bool, true, false}
 use mathlib.Core.List.{List, [], ◌++◌}
@@ -16,15 +17,12 @@ use Rattle.row.specs.declared.Fault.{Fault}
 use Rattle.row.specs.Fault.{structural}
 use Rattle.leaf.specs.Cells.{cells_of, cells, judge_leaf, on_judged}
 use Rattle.leaf.specs.Rows.{Row, rows_of, rows}
-use Rattle.leaf.specs.declared.Judged.{Judged}
 use Rattle.leaf.specs.declared.find.Run.{Run}
-use Rattle.leaf.specs.declared.find.LeafRun.{LeafRun}
-use Rattle.tree.specs.Chain.{stop, go, broken, Told, ok, ill, on_seen, along}
+use Rattle.tree.specs.Chain.{stop, go, broken, on_seen, along}
 use Rattle.list_records.specs.Records.{records}
 use Rattle.list_versions.specs.Gather.{wanted, ends, look_rows, rows_along}
 use Rattle.list_versions.specs.Steps.Gather.{rows_told, IsOk, size_told, run_of, again_of}
 use Rattle.list_versions.specs.declared.Which.{Which}
-use Rattle.list_versions.specs.declared.ChainSize.{ChainSize}
 use Rattle.list_versions.specs.declared.Again.{Again}
 use Rattle.store.proofs.PutLaws.{put_nil, length-put, put-after_at}
 use Rattle.leaf.proofs.Bytes.{bytes-page}
@@ -52,25 +50,25 @@ pub record Measured (which : Which) (used first : ℕ) (s : List ℕ) (p size le
   pub size_is : size ≡ length (records got)
   pub room : size + left * 8192 ≤ used * 8192
 
-pub measured_start : (which : Which) (used first : ℕ) (s : List ℕ) → Measured which used first s first 0 used
+pub measured_start : (which : Which) (used first : ℕ) (s : List ℕ) {m : ℕ} → m ≡ used → Measured which used first s first 0 m
 unfolding records
-measured_start which used first s = record { got = []; same = refl; size_is = refl; room = omega arith }
+measured_start which used first s e = rw e (record { got = []; same = refl; size_is = refl; room = omega arith })
 
 module _ (which : Which) (used first : ℕ) (s : List ℕ) (p size left : ℕ) (h : Measured which used first s p size left) where
-  pub measured_again : {f : Fault} → left ≤ 0 → f ≡ structural p → ChainSize.Bad f ≡ size_told (rows_along s used first which)
+  pub measured_again : {f : Fault} → left ≤ 0 → f ≡ structural p → Err f ≡ size_told (rows_along s used first which)
   unfolding rows_along
   measured_again z e = ap size_told (along_again (look_rows which) used h.got p s left z e ∙ h.same)
 
-  pub measured_unused : {f : Fault} → 0 < left → used ≤ p → f ≡ structural p → ChainSize.Bad f ≡ size_told (rows_along s used first which)
+  pub measured_unused : {f : Fault} → 0 < left → used ≤ p → f ≡ structural p → Err f ≡ size_told (rows_along s used first which)
   unfolding rows_along
   measured_unused z l e = ap size_told (along_unused (look_rows which) used h.got p s left z l e ∙ h.same)
 
-  module _ (z : 0 < left) (l : p < used) (B : AreBytes s) {pg : List ℕ} (here : pg ≡ page s p) (len : length pg ≡ 4096) {r : LeafRun} (said : r ≡ run_of pg p which) where
-    pub measured_bad : {f : Fault} → r ≡ LeafRun.Bad f → ChainSize.Bad f ≡ size_told (rows_along s used first which)
+  module _ (z : 0 < left) (l : p < used) (B : AreBytes s) {pg : List ℕ} (here : pg ≡ page s p) (len : length pg ≡ 4096) {r : Result (Run × ℕ × Bool) Fault} (said : r ≡ run_of pg p which) where
+    pub measured_bad : {f : Fault} → r ≡ Err f → Err f ≡ size_told (rows_along s used first which)
     unfolding rows_along
     measured_bad u = ap size_told (along_bad (look_rows which) used h.got p s l here left z (run-broken which p pg h.got said u) ∙ h.same)
 
-    module _ {run : Run} {e : ℕ} {last : Bool} (u : r ≡ LeafRun.Ok run e last) where
+    module _ {run : Run} {e : ℕ} {last : Bool} (u : r ≡ Ok (run, e, last)) where
       told : Measures run (wanted which (rows pg)) × Gives which p pg run.from run.count last
       told = run-told which p pg (rw here (bytes-page p s B)) len said u
 
@@ -80,21 +78,21 @@ module _ (which : Which) (used first : ℕ) (s : List ℕ) (p size left : ℕ) (
       more : size + (run.to - run.from) + 6 * run.count ≡ length (records (h.got ++ wanted which (rows pg)))
       more = omega (arith, h.size_is, told.0.size, length_more h.got (wanted which (rows pg)))
 
-      pub measured_last : last ≡ true → ChainSize.Ok (size + (run.to - run.from) + 6 * run.count) ≡ size_told (rows_along s used first which)
+      pub measured_last : last ≡ true → Ok (size + (run.to - run.from) + 6 * run.count) ≡ size_told (rows_along s used first which)
       unfolding rows_along
       measured_last t = rw more (ap size_told (along-last (look_rows which) used h.got p s l here left z (seen_last h.got told.1 t) ∙ h.same))
 
       module _ {n : ℕ} (t : last ≡ false) (next : n ≡ next_leaf pg) where
-        pub measured_end : n ≡ 0 → ChainSize.Ok (size + (run.to - run.from) + 6 * run.count) ≡ size_told (rows_along s used first which)
+        pub measured_end : n ≡ 0 → Ok (size + (run.to - run.from) + 6 * run.count) ≡ size_told (rows_along s used first which)
         unfolding rows_along
         measured_end q = rw more (ap size_told (along-end (look_rows which) used h.got p s l here left z (seen_more h.got told.1 t) next q ∙ h.same))
 
-        pub measured_on : (n ≡ 0 → ⊥) → Measured which used first s n (size + (run.to - run.from) + 6 * run.count) (left - 1)
-        measured_on q =
+        pub measured_on : {k : ℕ} → left ≡ suc k → (n ≡ 0 → ⊥) → Measured which used first s n (size + (run.to - run.from) + 6 * run.count) k
+        measured_on v q =
             let m = told.0 in
             record {
               got = h.got ++ wanted which (rows pg);
-              same = along_on (look_rows which) used h.got p s l here left z (seen_more h.got told.1 t) next q ∙ h.same;
+              same = along_on (look_rows which) used h.got p s l here left v (seen_more h.got told.1 t) next q ∙ h.same;
               size_is = more;
               room = omega (arith, h.room);
             }
@@ -103,46 +101,46 @@ module _ (which : Which) (used first : ℕ) (s : List ℕ) (p size left : ℕ) (
 
 record Met (which : Which) (p : ℕ) (pg : List ℕ) (rs all : List Row) : Type 0 where
   end : ℕ
-  judged : judge_leaf pg p ≡ Judged.Ok end
+  judged : judge_leaf pg p ≡ Ok end
   within : length (records (rs ++ wanted which (rows pg))) ≤ length (records all)
 
 module _ (which : Which) (used : ℕ) (s : List ℕ) (all : List Row) where
-  walk-met : (m p : ℕ) (rs : List Row) → ((p : ℕ) (rs : List Row) → along s used p (look_rows which) m rs ≡ ok all → length (records rs) ≤ length (records all))
-      → along s used p (look_rows which) (suc m) rs ≡ ok all → Met which p (page s p) rs all
+  walk-met : (m p : ℕ) (rs : List Row) → ((p : ℕ) (rs : List Row) → along s used p (look_rows which) m rs ≡ Ok all → length (records rs) ≤ length (records all))
+      → along s used p (look_rows which) (suc m) rs ≡ Ok all → Met which p (page s p) rs all
   unfolding along
   walk-met m p rs ih h = by_used (ltb p used) h
     where
       x : List Row
       x = rs ++ wanted which (rows (page s p))
 
-      rest : List Row → Told (List Row)
-      rest b = pick (eqb (next_leaf (page s p)) 0) (ok b) (along s used (next_leaf (page s p)) (look_rows which) m b)
+      rest : List Row → Result (List Row) Fault
+      rest b = pick (eqb (next_leaf (page s p)) 0) (Ok b) (along s used (next_leaf (page s p)) (look_rows which) m b)
 
-      by_next : (b : Bool) → pick b (ok x) (along s used (next_leaf (page s p)) (look_rows which) m x) ≡ ok all → length (records x) ≤ length (records all)
+      by_next : (b : Bool) → pick b (Ok x) (along s used (next_leaf (page s p)) (look_rows which) m x) ≡ Ok all → length (records x) ≤ length (records all)
       by_next true q = let e : x ≡ all = cc in rw e (omega arith)
       by_next false q = ih (next_leaf (page s p)) x q
 
-      by_end : (b : Bool) → on_seen (λ b. ok b) rest (λ f. ill f) (pick b (stop x) (go x)) ≡ ok all → length (records x) ≤ length (records all)
+      by_end : (b : Bool) → on_seen (λ b. Ok b) rest (λ f. Err f) (pick b (stop x) (go x)) ≡ Ok all → length (records x) ≤ length (records all)
       by_end true q = let e : x ≡ all = cc in rw e (omega arith)
       by_end false q = by_next (eqb (next_leaf (page s p)) 0) q
 
-      by_judged : (j : Judged) → judge_leaf (page s p) p ≡ j
-          → on_seen (λ b. ok b) rest (λ f. ill f) (on_judged (λ e. pick (ends which (cells (page s p))) (stop x) (go x)) (λ f. broken f) j) ≡ ok all → Met which p (page s p) rs all
-      by_judged (Judged.Bad f) t q = absurd (let z : ◌≡◌ {A = ℕ} 0 1 = cc in omega arith)
-      by_judged (Judged.Ok e) t q = record { end = e; judged = t; within = by_end (ends which (cells (page s p))) q }
+      by_judged : (j : Result ℕ Fault) → judge_leaf (page s p) p ≡ j
+          → on_seen (λ b. Ok b) rest (λ f. Err f) (on_judged (λ e. pick (ends which (cells (page s p))) (stop x) (go x)) (λ f. broken f) j) ≡ Ok all → Met which p (page s p) rs all
+      by_judged (Err f) t q = absurd (cc)
+      by_judged (Ok e) t q = record { end = e; judged = t; within = by_end (ends which (cells (page s p))) q }
 
-      by_used : (b : Bool) → pick b (on_seen (λ b. ok b) rest (λ f. ill f) (look_rows which rs p (page s p))) (ill (structural p)) ≡ ok all → Met which p (page s p) rs all
+      by_used : (b : Bool) → pick b (on_seen (λ b. Ok b) rest (λ f. Err f) (look_rows which rs p (page s p))) (Err (structural p)) ≡ Ok all → Met which p (page s p) rs all
       by_used true q = by_judged (judge_leaf (page s p) p) refl q
-      by_used false q = absurd (let z : ◌≡◌ {A = ℕ} 0 1 = cc in omega arith)
+      by_used false q = absurd (cc)
 
-  walk_grows : (m p : ℕ) (rs : List Row) → along s used p (look_rows which) m rs ≡ ok all → length (records rs) ≤ length (records all)
+  walk_grows : (m p : ℕ) (rs : List Row) → along s used p (look_rows which) m rs ≡ Ok all → length (records rs) ≤ length (records all)
   unfolding along
-  walk_grows zero p rs h = absurd (let z : ◌≡◌ {A = ℕ} 0 1 = cc in omega arith)
+  walk_grows zero p rs h = absurd (cc)
   walk_grows (suc m) p rs h =
       let w = walk-met m p rs (walk_grows m) h in
       omega (arith, w.within, length_more rs (wanted which (rows (page s p))))
 
-  walk_meets : (m p : ℕ) (rs : List Row) → 0 < m → along s used p (look_rows which) m rs ≡ ok all → Met which p (page s p) rs all
+  walk_meets : (m p : ℕ) (rs : List Row) → 0 < m → along s used p (look_rows which) m rs ≡ Ok all → Met which p (page s p) rs all
   walk_meets zero p rs z h = absurd (omega arith)
   walk_meets (suc m) p rs z h = walk-met m p rs (walk_grows m) h
 
@@ -155,11 +153,11 @@ pub record Copied (which : Which) (used first : ℕ) (s out₀ out : List ℕ) (
   pub out-is : out ≡ put 0 (records got) out₀
   pub long : length out ≡ length out₀
 
-pub copied_start : (which : Which) (used first : ℕ) (s out : List ℕ) → Copied which used first s out out first 0 used
+pub copied_start : (which : Which) (used first : ℕ) (s out : List ℕ) {m : ℕ} → m ≡ used → Copied which used first s out out first 0 m
 unfolding records
-copied_start which used first s out = record { got = []; same = refl; end_is = refl; out-is = sym (put_nil 0 out); long = refl }
+copied_start which used first s out e = rw e (record { got = []; same = refl; end_is = refl; out-is = sym (put_nil 0 out); long = refl })
 
-not_both : {rs : List Row} {f : Fault} {t : Told (List Row)} → ill f ≡ t → t ≡ ok rs → ⊥
+not_both : {rs : List Row} {f : Fault} {t : Result (List Row) Fault} → Err f ≡ t → t ≡ Ok rs → ⊥
 not_both e q = let z : ◌≡◌ {A = ℕ} 0 1 = cc in omega arith
 
 module _ (which : Which) (used first : ℕ) (s out₀ out : List ℕ) (p o left : ℕ) (h : Copied which used first s out₀ out p o left) (good : IsOk (rows_along s used first which))
@@ -167,7 +165,7 @@ module _ (which : Which) (used first : ℕ) (s out₀ out : List ℕ) (p o left 
   abbrev all : List Row
   all = rows_told (rows_along s used first which)
 
-  walks : along s used p (look_rows which) left h.got ≡ ok all
+  walks : along s used p (look_rows which) left h.got ≡ Ok all
   unfolding rows_along
   walks = h.same ∙ good
 
@@ -195,7 +193,7 @@ module _ (which : Which) (used first : ℕ) (s out₀ out : List ℕ) (p o left 
           ∙ rw (gave.same, h.out-is, records-append h.got (wanted which (rows pg)))
           (put-after_at 0 o (records h.got) (records (wanted which (rows pg))) out₀ (omega arith) (omega (arith, h.end_is)))
 
-      finished : ok (h.got ++ wanted which (rows pg)) ≡ along s used p (look_rows which) left h.got → out₁ ≡ put 0 (records all) out₀
+      finished : Ok (h.got ++ wanted which (rows pg)) ≡ along s used p (look_rows which) left h.got → out₁ ≡ put 0 (records all) out₀
       finished e = joined ∙ ap (λ (rs : List Row). put 0 (records rs) out₀) (ap rows_told (e ∙ walks))
 
       pub copied_last : a.last ≡ true → out₁ ≡ put 0 (records (rows_told (rows_along s used first which))) out₀
@@ -205,11 +203,11 @@ module _ (which : Which) (used first : ℕ) (s out₀ out : List ℕ) (p o left 
         pub copied_end : n ≡ 0 → out₁ ≡ put 0 (records (rows_told (rows_along s used first which))) out₀
         copied_end q = finished (along-end (look_rows which) used h.got p s l here left z (seen_more h.got gave t) next q)
 
-        pub copied_on : {o₁ : ℕ} → (n ≡ 0 → ⊥) → o₁ ≡ o + length (records (rows_of pg a.count a.from)) → Copied which used first s out₀ out₁ n o₁ (left - 1)
-        copied_on q w =
+        pub copied_on : {o₁ k : ℕ} → left ≡ suc k → (n ≡ 0 → ⊥) → o₁ ≡ o + length (records (rows_of pg a.count a.from)) → Copied which used first s out₀ out₁ n o₁ k
+        copied_on v q w =
             record {
               got = h.got ++ wanted which (rows pg);
-              same = along_on (look_rows which) used h.got p s l here left z (seen_more h.got gave t) next q ∙ h.same;
+              same = along_on (look_rows which) used h.got p s l here left v (seen_more h.got gave t) next q ∙ h.same;
               end_is = omega (arith, w, h.end_is, length_more h.got (wanted which (rows pg)), ap (λ (rs : List Row). length (records rs)) gave.same);
               out-is = joined;
               long = ap length stored ∙ (length-put o (records (rows_of pg a.count a.from)) out copied_room.1 ∙ h.long);

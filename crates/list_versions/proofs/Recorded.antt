@@ -1,8 +1,10 @@
 -- Records and the cells that they hold: the records of cells that stand one after another are as long as the cells and six
 -- bytes more for each. Assumes nothing.
+use Rattle.row.specs.declared.CellFault.{CellFault}
+use Rattle.std.proofs.Common.{Result, Ok, Err}
 use mathlib.Core.Path.{◌≡◌, refl, sym, ap, ◌∙◌}
 use mathlib.Core.List.{List, [], ◌∷◌, ◌++◌, map, append_assoc}
-use Prim.Native.Nat.{ℕ, zero, suc, ◌+◌, ◌-◌, ◌*◌, ◌≤◌, ◌<◌}
+use Prim.Native.Nat.{ℕ, zero, suc, ◌+◌, ◌-◌, ◌*◌, ◌≤◌}
 use native.Mathlib.Omega.{arith}
 use lib.ListN.{length, length-append}
 use Rattle.store.specs.Le.{AreBytes, le_at, bytes_le}
@@ -11,7 +13,6 @@ use Rattle.page.specs.Key.{flip, key_bytes}
 use Rattle.row.specs.Read.{cell_at}
 use Rattle.row.specs.Write.{stamp_len, pointer_len, stamp_bytes, pointer_bytes, cell_size, record_bytes}
 use Rattle.row.specs.declared.Cell.{Cell}
-use Rattle.row.specs.declared.read.CellRead.{CellRead}
 use Rattle.leaf.specs.Cells.{on_cell, cells_of}
 use Rattle.leaf.specs.Rows.{Row, row_of, rows_of, row_bytes}
 use Rattle.list_records.specs.Records.{records}
@@ -37,7 +38,7 @@ pub record CellRecord (s : List ℕ) (at : ℕ) (c : Cell) : Type 0 where
   pub low : at + 19 ≤ c.next
   pub inside : c.next ≤ length s
 
-pub cell-record : (s : List ℕ) (at : ℕ) (c : Cell) → AreBytes s → cell_at s at ≡ CellRead.Got c → CellRecord s at c
+pub cell-record : (s : List ℕ) (at : ℕ) (c : Cell) → AreBytes s → cell_at s at ≡ Ok c → CellRecord s at c
 cell-record s at c B e =
     let w = read_is-written s at c B e in
     let p = cell_placed s at c e in
@@ -71,37 +72,35 @@ module _ (s : List ℕ) (B : AreBytes s) where
 
 -- ---- n cells that are all there, one by one
 
-pub record FirstCell (s : List ℕ) (n at next : ℕ) : Type 0 where
+pub record FirstCell (s : List ℕ) (n m at next : ℕ) : Type 0 where
   pub low : at + 19 ≤ next
   pub inside : next ≤ length s
-  pub count : length (cells_of s (n - 1) next) ≡ n - 1
-  pub rest : records (rows_of s n at) ≡ record_bytes 1 (part at (next - at) s) ++ records (rows_of s (n - 1) next)
+  pub count : length (cells_of s m next) ≡ m
+  pub rest : records (rows_of s n at) ≡ record_bytes 1 (part at (next - at) s) ++ records (rows_of s m next)
   pub width : length (part at (next - at) s) ≡ next - at
   pub size : length (record_bytes 1 (part at (next - at) s)) ≡ 6 + (next - at)
-  pub long : length (records (rows_of s n at)) ≡ 6 + (next - at) + length (records (rows_of s (n - 1) next))
+  pub long : length (records (rows_of s n at)) ≡ 6 + (next - at) + length (records (rows_of s m next))
 
-pub first_cell : (s : List ℕ) → AreBytes s → (n at : ℕ) {k : ℕ} → 0 < n → length (cells_of s n at) ≡ n → k ≡ le_at 4 s (at + 4) → FirstCell s n at (at + 8 + k)
+pub first_cell : (s : List ℕ) → AreBytes s → (n m at : ℕ) {k : ℕ} → n ≡ suc m → length (cells_of s n at) ≡ n → k ≡ le_at 4 s (at + 4) → FirstCell s n m at (at + 8 + k)
 unfolding cells_of records
-first_cell s B zero at z h q = absurd (omega arith)
-first_cell s B (suc n) at z h q = rw q (by_read (cell_at s at) refl h)
+first_cell s B n m at z h q = rw (q, z) (by_read (cell_at s at) refl (rw z at h))
   where
-    by_read : (r : CellRead) → cell_at s at ≡ r → length (on_cell (λ c. c ∷ cells_of s n c.next) (λ kind. []) r) ≡ suc n → FirstCell s (suc n) at (at + 8 + le_at 4 s (at + 4))
-    by_read (CellRead.Bad kind) e l = absurd (omega arith)
-    by_read (CellRead.Got c) e l =
+    by_read : (r : Result Cell CellFault) → cell_at s at ≡ r → length (on_cell (λ c. c ∷ cells_of s m c.next) (λ kind. []) r) ≡ suc m → FirstCell s (suc m) m at (at + 8 + le_at 4 s (at + 4))
+    by_read (Err kind) e l = absurd (omega arith)
+    by_read (Ok c) e l =
         let r = cell-record s at c B e in
-        let m : suc n - 1 ≡ n = omega arith in
         let width = length_part at (c.next - at) s (omega (arith, r.low, r.inside)) in
-        let rest : records (rows_of s (suc n) at) ≡ record_bytes 1 (part at (c.next - at) s) ++ records (rows_of s n c.next) = rw (e, r.bytes) in
+        let rest : records (rows_of s (suc m) at) ≡ record_bytes 1 (part at (c.next - at) s) ++ records (rows_of s m c.next) = rw (e, r.bytes) in
         let size : length (record_bytes 1 (part at (c.next - at) s)) ≡ 6 + (c.next - at) = length-record 1 (part at (c.next - at) s) ∙ rw width in
         rw (← r.next)
         (record {
           low = r.low;
           inside = r.inside;
-          count = rw m (omega arith);
-          rest = rw m rest;
+          count = omega arith;
+          rest = rest;
           width = width;
           size = size;
-          long = rw m (ap length rest ∙ (length-append (record_bytes 1 (part at (c.next - at) s)) (records (rows_of s n c.next)) ∙ rw size));
+          long = ap length rest ∙ (length-append (record_bytes 1 (part at (c.next - at) s)) (records (rows_of s m c.next)) ∙ rw size);
         })
 
 pub no_cells : (s : List ℕ) (n at : ℕ) → n ≤ 0 → records (rows_of s n at) ≡ []

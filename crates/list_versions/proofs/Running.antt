@@ -1,4 +1,5 @@
 -- The run of a leaf's cells that is listed holds the wanted rows, and says how long their records are. Assumes nothing.
+use Rattle.std.proofs.Common.{Result, Ok, Err}
 use mathlib.Core.Path.{◌≡◌, refl, sym, ap, ◌∙◌}
 use mathlib.Core.Bool.{Bool}
 use mathlib.Core.List.{List, ◌++◌, map}
@@ -13,9 +14,7 @@ use Rattle.row.specs.declared.Fault.{Fault}
 use Rattle.leaf.specs.Cells.{cells_of, cells, fold_cells, judge_leaf, on_judged, has_larger}
 use Rattle.leaf.specs.Find.{running, run_leaf}
 use Rattle.leaf.specs.Rows.{Row, row_of, rows_of, rows}
-use Rattle.leaf.specs.declared.Judged.{Judged}
 use Rattle.leaf.specs.declared.find.Run.{Run}
-use Rattle.leaf.specs.declared.find.LeafRun.{LeafRun}
 use Rattle.tree.specs.Chain.{stop, go, broken}
 use Rattle.list_records.specs.Records.{records}
 use Rattle.list_versions.specs.Gather.{wanted, ends, look_rows}
@@ -55,28 +54,28 @@ abbrev the_run : Which → List ℕ → ℕ → Run
 the_run Which.All pg e = record { from = 12; to = e; count = cell_count pg }
 the_run (Which.Key key) pg e = fold_cells (running key) (record { from = 12; to = 12; count = 0 }) (cells pg)
 
-told_is : (which : Which) (p : ℕ) (pg : List ℕ) → run_of pg p which ≡ on_judged (λ e. LeafRun.Ok (the_run which pg e) e (ends which (cells pg))) (λ f. LeafRun.Bad f) (judge_leaf pg p)
+told_is : (which : Which) (p : ℕ) (pg : List ℕ) → run_of pg p which ≡ on_judged (λ e. Ok (the_run which pg e, e, ends which (cells pg))) (λ f. Err f) (judge_leaf pg p)
 unfolding run_leaf
 told_is Which.All p pg = refl
 told_is (Which.Key key) p pg = refl
 
-again_is : (which : Which) (p : ℕ) (pg : List ℕ) {e : ℕ} → judge_leaf pg p ≡ Judged.Ok e
+again_is : (which : Which) (p : ℕ) (pg : List ℕ) {e : ℕ} → judge_leaf pg p ≡ Ok e
     → again_of pg p which ≡ record { from = (the_run which pg e).from; count = (the_run which pg e).count; last = ends which (cells pg) }
 unfolding run_leaf
 again_is Which.All p pg j = refl
 again_is (Which.Key key) p pg j = rw j
 
 -- a leaf with a fault ends the walk
-pub run-broken : (which : Which) (p : ℕ) (pg : List ℕ) (rs : List Row) {r : LeafRun} {f : Fault} → r ≡ run_of pg p which → r ≡ LeafRun.Bad f → look_rows which rs p pg ≡ broken f
+pub run-broken : (which : Which) (p : ℕ) (pg : List ℕ) (rs : List Row) {r : Result (Run × ℕ × Bool) Fault} {f : Fault} → r ≡ run_of pg p which → r ≡ Err f → look_rows which rs p pg ≡ broken f
 run-broken which p pg rs {r} {f} q u = by_judged (judge_leaf pg p) (sym (told_is which p pg) ∙ (sym q ∙ u))
   where
-    by_judged : (j : Judged) → on_judged (λ e. LeafRun.Ok (the_run which pg e) e (ends which (cells pg))) (λ g. LeafRun.Bad g) j ≡ LeafRun.Bad f
+    by_judged : (j : Result ℕ Fault) → on_judged {A = Result (Run × ℕ × Bool) Fault} (λ e. Ok (the_run which pg e, e, ends which (cells pg))) (λ g. Err g) j ≡ Err f
         → on_judged (λ e. pick (ends which (cells pg)) (stop (rs ++ wanted which (rows pg))) (go (rs ++ wanted which (rows pg)))) (λ g. broken g) j ≡ broken f
-    by_judged (Judged.Ok e) w = absurd (let z : ◌≡◌ {A = ℕ} 0 1 = cc in omega arith)
-    by_judged (Judged.Bad g) w = cc
+    by_judged (Ok e) w = absurd (cc)
+    by_judged (Err g) w = cc
 
 module _ (which : Which) (p : ℕ) (pg : List ℕ) (B : AreBytes pg) (len : length pg ≡ 4096) where
-  module _ {e : ℕ} (judged : judge_leaf pg p ≡ Judged.Ok e) where
+  module _ {e : ℕ} (judged : judge_leaf pg p ≡ Ok e) where
     stands : (w : Which) → Stands pg (the_run w pg e) (wanted w (rows pg))
     stands Which.All =
         let a = judged-leaf p pg e judged in
@@ -107,14 +106,15 @@ module _ (which : Which) (p : ℕ) (pg : List ℕ) (B : AreBytes pg) (len : leng
     gives_again q = rw (q, again_is which p pg judged) gives
 
   -- what a first walk is told
-  pub run-told : {r : LeafRun} {run : Run} {e : ℕ} {last : Bool} → r ≡ run_of pg p which → r ≡ LeafRun.Ok run e last
+  pub run-told : {r : Result (Run × ℕ × Bool) Fault} {run : Run} {e : ℕ} {last : Bool} → r ≡ run_of pg p which → r ≡ Ok (run, e, last)
       → Measures run (wanted which (rows pg)) × Gives which p pg run.from run.count last
   run-told {r} {run} {e} {last} q u = by_judged (judge_leaf pg p) refl (sym (told_is which p pg) ∙ (sym q ∙ u))
     where
-      by_judged : (j : Judged) → judge_leaf pg p ≡ j → on_judged (λ d. LeafRun.Ok (the_run which pg d) d (ends which (cells pg))) (λ g. LeafRun.Bad g) j ≡ LeafRun.Ok run e last
+      by_judged : (j : Result ℕ Fault) → judge_leaf pg p ≡ j → on_judged {A = Result (Run × ℕ × Bool) Fault} (λ d. Ok (the_run which pg d, d, ends which (cells pg))) (λ g. Err g) j ≡ Ok (run, e, last)
           → Measures run (wanted which (rows pg)) × Gives which p pg run.from run.count last
-      by_judged (Judged.Bad g) t w = absurd (let z : ◌≡◌ {A = ℕ} 0 1 = cc in omega arith)
-      by_judged (Judged.Ok d) t w =
-          let x : the_run which pg d ≡ run = cc in
-          let y : ends which (cells pg) ≡ last = cc in
-          rw (← x, ← y) (measures t, gives t)
+      by_judged (Err g) t w = absurd (cc)
+      by_judged (Ok d) j w =
+          let t : ◌≡◌ {A = Run × ℕ × Bool} (the_run which pg d, d, ends which (cells pg)) (run, e, last) = cc (w) in
+          let x : the_run which pg d ≡ run = ap (λ (y : Run × ℕ × Bool). y.0) t in
+          let y : ends which (cells pg) ≡ last = ap (λ (z : Run × ℕ × Bool). z.2) t in
+          rw (← x, ← y) (measures j, gives j)

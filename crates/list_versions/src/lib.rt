@@ -12,24 +12,16 @@ ghost use Rattle.list_records.specs.Records.{records};
 ghost use Rattle.call_answers.specs.Answer.{written};
 ghost use Rattle.list_versions.specs.Listed.{listed_rows, route_of, list_tree};
 
-use leaf::Judged;
-use leaf::find::{LeafRun, Run};
-use list_records::Listing;
+use call_answers::{Refusal, Refused};
+use leaf::find::Run;
 use row::Fault;
-use tree::{Descent, Route};
+use tree::Route;
 
 // The versions that are listed: all, or those of one key.
 #[derive(Clone, Copy)]
 pub enum Which {
     All,
     Key(u32),
-}
-
-// The length of a listing, or the first fault of its chain.
-#[derive(Clone, Copy)]
-pub enum ChainSize {
-    Ok(usize),
-    Bad(Fault),
 }
 
 // What a second walk over a judged leaf needs: where the run starts, how many cells it has, and whether the walk ends.
@@ -40,57 +32,47 @@ pub struct Again {
     pub last: bool,
 }
 
-fn run_of(pg: &[u8], which: Which, p: u32) -> LeafRun
+fn run_of(pg: &[u8], which: Which, p: u32) -> Result<(Run, usize, bool), Fault>
     requires { length pg.now ≡ 4096 }
     ensures { result ≡ run_of pg.now p which }
 {
     match which {
         Which::Key(key) => leaf::find::run_in_leaf(pg, p, key),
-        Which::All => match leaf::judge_leaf(pg, p) {
-            Judged::Bad(f) => LeafRun::Bad(f),
-            Judged::Ok(e) => LeafRun::Ok(
-                Run {
-                    from: page::HEADER_SIZE,
-                    to: e,
-                    count: page::get_cell_count(pg) as usize,
-                },
-                e,
-                false,
-            ),
-        },
+        Which::All => {
+            let e = leaf::judge_leaf(pg, p)?;
+            let run = Run {
+                from: page::HEADER_SIZE,
+                to: e,
+                count: page::get_cell_count(pg) as usize,
+            };
+            Ok((run, e, false))
+        }
     }
 }
 
 // How many bytes the records along the chain from page `first` on take, every leaf judged; or the first fault.
-pub fn size_along(pool: &[u8], which: Which, used: u32, first: u32) -> ChainSize
+pub fn size_along(pool: &[u8], which: Which, used: u32, first: u32) -> Result<usize, Fault>
     requires { used * 4096 ≤ length pool.now }
     ensures { result ≡ size_told (rows_along pool.now used first which) }
 {
     let mut p = first;
     let mut size: usize = 0;
-    let mut left = used;
-    while 0 < left {
+    for _ in 0..used {
         if used <= p {
-            return ChainSize::Bad(row::structural_fault(p));
+            return Err(row::structural_fault(p));
         }
         let pg = page::pool::page_of(pool, p);
-        match run_of(pg, which, p) {
-            LeafRun::Bad(f) => return ChainSize::Bad(f),
-            LeafRun::Ok(run, _, larger) => {
-                size = size + (run.to - run.from) + list_records::RECORD_HEAD * run.count;
-                let next = page::get_next_leaf(pg);
-                if larger {
-                    return ChainSize::Ok(size);
-                }
-                if next == 0 {
-                    return ChainSize::Ok(size);
-                }
-                p = next;
-            }
+        let (run, _, larger) = run_of(pg, which, p)?;
+        size = size + (run.to - run.from) + list_records::RECORD_HEAD * run.count;
+        if larger {
+            return Ok(size);
         }
-        left -= 1;
+        p = page::get_next_leaf(pg);
+        if p == 0 {
+            return Ok(size);
+        }
     }
-    ChainSize::Bad(row::structural_fault(p))
+    Err(row::structural_fault(p))
 }
 
 // Where the run of a leaf stands that was judged before: all cells need no second look.
@@ -105,12 +87,12 @@ fn run_again(pg: &[u8], which: Which, p: u32) -> Again
             last: false,
         },
         Which::Key(key) => match leaf::find::run_in_leaf(pg, p, key) {
-            LeafRun::Bad(_) => Again {
+            Err(_) => Again {
                 from: page::HEADER_SIZE,
                 count: 0,
                 last: true,
             },
-            LeafRun::Ok(run, _, larger) => Again {
+            Ok((run, _, larger)) => Again {
                 from: run.from,
                 count: run.count,
                 last: larger,
@@ -127,13 +109,11 @@ fn write_run(out: &mut [u8], pg: &[u8], o: usize, from: usize, count: usize) -> 
 {
     let mut at = from;
     let mut to = o;
-    let mut left = count;
-    while 0 < left {
+    for _ in 0..count {
         let next = at + 8 + store::get32(pg, at + 4) as usize;
         list_records::write_record(out, to, 1, &pg[at..next]);
         to = to + list_records::RECORD_HEAD + (next - at);
         at = next;
-        left -= 1;
     }
     to
 }
@@ -145,8 +125,7 @@ pub fn write_along(pool: &[u8], out: &mut [u8], which: Which, used: u32, first: 
 {
     let mut p = first;
     let mut o: usize = 0;
-    let mut left = used;
-    while 0 < left {
+    for _ in 0..used {
         if used <= p {
             return;
         }
@@ -160,7 +139,6 @@ pub fn write_along(pool: &[u8], out: &mut [u8], which: Which, used: u32, first: 
         if p == 0 {
             return;
         }
-        left -= 1;
     }
 }
 
@@ -173,29 +151,35 @@ fn route_of(which: Which) -> Route
     }
 }
 
-fn list_from(pool: &[u8], out: &mut [u8], which: Which, used: u32, first: u32) -> Listing
+fn list_from(
+    pool: &[u8],
+    out: &mut [u8],
+    which: Which,
+    used: u32,
+    first: u32,
+) -> Result<usize, Refused>
     requires { used * 4096 ≤ length pool.now }
     ensures { written result out.new ≡ listed_rows (rows_along pool.now used first which) out.old }
 {
-    match size_along(pool, which, used, first) {
-        ChainSize::Bad(f) => Listing::Bad(f),
-        ChainSize::Ok(n) => {
-            if out.len() < n {
-                return Listing::Short;
-            }
-            write_along(pool, out, which, used, first);
-            Listing::Done(n)
-        }
+    let n = size_along(pool, which, used, first)?;
+    if out.len() < n {
+        return Err(Refusal::Short.into());
     }
+    write_along(pool, out, which, used, first);
+    Ok(n)
 }
 
 // From the leaf that the way down comes to.
-pub fn list_tree(pool: &[u8], out: &mut [u8], which: Which, used: u32, root: u32) -> Listing
+pub fn list_tree(
+    pool: &[u8],
+    out: &mut [u8],
+    which: Which,
+    used: u32,
+    root: u32,
+) -> Result<usize, Refused>
     requires { used * 4096 ≤ length pool.now }
     ensures { written result out.new ≡ list_tree pool.now used root which out.old }
 {
-    match tree::descend(pool, used, root, route_of(which)) {
-        Descent::Bad(f) => Listing::Bad(f),
-        Descent::Leaf(p) => list_from(pool, out, which, used, p),
-    }
+    let first = tree::descend(pool, used, root, route_of(which))?;
+    list_from(pool, out, which, used, first)
 }

@@ -1,5 +1,6 @@
 -- The first pass beside the rows of the chain: it counts the bytes of all their records, sees whether a key falls, and finds
 -- the chain's fault. Assumes nothing.
+use Rattle.std.proofs.Common.{Ok, Err, Result}
 use mathlib.Core.Path.{◌≡◌, refl, sym, ap, ◌∙◌}
 use mathlib.Core.Bool.{Bool, true, false, ◌||◌}
 use mathlib.Core.List.{List, [], ◌∷◌, ◌++◌}
@@ -13,15 +14,13 @@ use Rattle.page.specs.Page.{page}
 use Rattle.row.specs.Read.{cell_at}
 use Rattle.row.specs.declared.Cell.{Cell}
 use Rattle.row.specs.declared.Fault.{Fault}
-use Rattle.row.specs.declared.read.CellRead.{CellRead}
 use Rattle.leaf.specs.Rows.{Row, row_of}
-use Rattle.tree.specs.Chain.{Told, ok, ill, along}
+use Rattle.tree.specs.Chain.{along}
 use Rattle.list_records.specs.Records.{records}
 use Rattle.list_visible.specs.Visible.{chain_rows}
-use Rattle.list_visible.specs.Steps.Fast.{bound_cell, look_bound, told_bound, start_bound, bound_along}
+use Rattle.list_visible.specs.Steps.Fast.{bound_cell, look_bound, start_bound, bound_along}
 use Rattle.list_visible.specs.Steps.ScanFacts.{falling, BoundIs, BoundTells, FaultsAgree}
 use Rattle.list_visible.specs.declared.Bound.{Bound}
-use Rattle.list_visible.specs.declared.ChainBound.{ChainBound}
 use Rattle.store.proofs.PartLaws.{length_part}
 use Rattle.list_visible.proofs.Beside.{Alike, rows_beside}
 use Rattle.list_visible.proofs.Choosing.{records-append}
@@ -60,13 +59,13 @@ pub never_falls_lem : (rs : List Row) (r : Row) → falling 0 (rs ++ (r ∷ []))
 never_falls_lem rs r e = by_test (falling 0 rs) (ltb r.key (last_of 0 rs)) refl (sym (falling_snoc 0 rs r) ∙ e)
   where
     by_test : (a b : Bool) → ltb r.key (last_of 0 rs) ≡ b → (a || b) ≡ false → (a ≡ false) × (last_of 0 rs ≤ r.key)
-    by_test true b t q = absurd (let z : ◌≡◌ {A = ℕ} 0 1 = cc in omega arith)
+    by_test true b t q = absurd (cc)
     by_test false b t q = (refl, ltb-false r.key (last_of 0 rs) (t ∙ q))
 
 -- ---- the pass
 
 module _ (s : List ℕ) (B : AreBytes s) (used : ℕ) (room : used * 4096 ≤ length s) where
-  row_long : (p : ℕ) (c : Cell) → p < used → cell_at (page s p) c.at ≡ CellRead.Got c → length (records (row_of (page s p) c ∷ [])) ≡ 6 + (c.next - c.at)
+  row_long : (p : ℕ) (c : Cell) → p < used → cell_at (page s p) c.at ≡ Ok c → length (records (row_of (page s p) c ∷ [])) ≡ 6 + (c.next - c.at)
   row_long p c h e =
       let a = cell-whole p c s e in
       ap length (cell-record p c s e B) ∙ (length-record 1 _ ∙ ap (λ (n : ℕ). 6 + n) (length_part (p * 4096 + c.at) (c.next - c.at) s (omega (arith, a.0, a.1))))
@@ -76,7 +75,7 @@ module _ (s : List ℕ) (B : AreBytes s) (used : ℕ) (room : used * 4096 ≤ le
     size : b.size ≡ length (records rs)
     falls : b.falls ≡ falling 0 rs
 
-  bounds_more : (p : ℕ) (c : Cell) (rs : List Row) (b : Bound) → p < used → cell_at (page s p) c.at ≡ CellRead.Got c → Bounds rs b → Bounds (rs ++ (row_of (page s p) c ∷ [])) (bound_cell b c)
+  bounds_more : (p : ℕ) (c : Cell) (rs : List Row) (b : Bound) → p < used → cell_at (page s p) c.at ≡ Ok c → Bounds rs b → Bounds (rs ++ (row_of (page s p) c ∷ [])) (bound_cell b c)
   bounds_more p c rs b h e k =
       let r = row_of (page s p) c in
       record {
@@ -93,9 +92,9 @@ pub bound_tells : BoundTells
 unfolding bound_along
 bound_tells used p s rs B room e = by_told (along s used p look_bound used start_bound) refl (rw e at (bounds s B used room p))
   where
-    by_told : (t : Told Bound) → along s used p look_bound used start_bound ≡ t → Alike (Bounds s B used room) (ok rs) t → BoundIs used p s rs
-    by_told (ok b) q k = record { bound = b; told = ap told_bound q; size = k.size; falls = k.falls }
-    by_told (ill f) q k = absurd k
+    by_told : (t : Result Bound Fault) → along s used p look_bound used start_bound ≡ t → Alike (Bounds s B used room) (Ok rs) t → BoundIs used p s rs
+    by_told (Ok b) q k = record { bound = b; told = q; size = k.size; falls = k.falls }
+    by_told (Err f) q k = absurd k
 
 pub faults_agree : FaultsAgree
 unfolding bound_along
@@ -103,6 +102,6 @@ faults_agree used p s f e =
     by_told (along s used p look_bound used start_bound)
     (rw e at (rows_beside look_bound (λ q b c. bound_cell b c) used s (judging_bound s) (λ rs b. Unit) (λ q c rs b h r k. tt) p start_bound tt))
   where
-    by_told : (t : Told Bound) → Alike (λ (rs : List Row) (b : Bound). Unit) (ill f) t → told_bound t ≡ ChainBound.Bad f
-    by_told (ok b) k = absurd k
-    by_told (ill g) k = ap (λ (x : Fault). ChainBound.Bad x) (sym k)
+    by_told : (t : Result Bound Fault) → Alike (λ (rs : List Row) (b : Bound). Unit) (Err f) t → t ≡ Err f
+    by_told (Ok b) k = absurd k
+    by_told (Err g) k = ap (λ (x : Fault). Err x) (sym k)

@@ -1,5 +1,6 @@
 -- A loop over a leaf that was judged before it: every cell that is left is there, and its fields stand at their places.
 -- Assumes nothing.
+use Rattle.std.proofs.Common.{Ok, Err}
 use mathlib.Core.Path.{◌≡◌, refl, sym, ◌∙◌}
 use mathlib.Core.Bool.{Bool, true, false}
 use mathlib.Core.List.{List, ◌∷◌}
@@ -13,11 +14,9 @@ use Rattle.page.specs.Header.{node_type, cell_count}
 use Rattle.page.specs.Key.{rank_at}
 use Rattle.row.specs.Read.{stamp_size, stamp_in, cell_at}
 use Rattle.row.specs.declared.Cell.{Cell}
-use Rattle.row.specs.declared.read.CellRead.{CellRead}
 use Rattle.mvcc.specs.Rules.{visible}
 use Rattle.leaf.specs.Cells.{Step, cells_of, step_of, on_step, judge_cells, judge_leaf}
 use Rattle.row.specs.Fault.{structural}
-use Rattle.leaf.specs.declared.Judged.{Judged}
 use Rattle.list_visible.specs.Steps.Fast.{chosen_of, WasJudged}
 use Rattle.list_visible.specs.declared.pass.Chosen.{Chosen}
 use Rattle.mvcc.specs.Snapshot.{Snapshot}
@@ -29,20 +28,20 @@ pub record Going (p n at : ℕ) (pg : List ℕ) : Type 0 where
   key : ℕ
   creator : ℕ
   end : ℕ
-  judged : judge_cells pg p key creator n at ≡ Judged.Ok end
+  judged : judge_cells pg p key creator n at ≡ Ok end
 
 pub going_start : (p : ℕ) (pg : List ℕ) → WasJudged p pg → Going p (cell_count pg) 12 pg
 unfolding judge_leaf
 going_start p pg d = by_type (eqb (node_type pg) 1) d.judged
   where
-    by_type : (b : Bool) → pick b (judge_cells pg p 0 0 (cell_count pg) 12) (Judged.Bad (structural p)) ≡ Judged.Ok d.end → Going p (cell_count pg) 12 pg
+    by_type : (b : Bool) → pick b (judge_cells pg p 0 0 (cell_count pg) 12) (Err (structural p)) ≡ Ok d.end → Going p (cell_count pg) 12 pg
     by_type true w = record { key = 0; creator = 0; end = d.end; judged = w }
-    by_type false w = absurd (let z : ◌≡◌ {A = ℕ} 0 1 = cc in omega arith)
+    by_type false w = absurd (cc)
 
 -- the cell that comes, where it stands, and those after it
 pub record Turn (p n at : ℕ) (pg : List ℕ) : Type 0 where
   pub cell : Cell
-  pub read : cell_at pg at ≡ CellRead.Got cell
+  pub read : cell_at pg at ≡ Ok cell
   pub here : cell.at ≡ at
   pub next-is : cell.next ≡ at + 8 + le_at 4 pg (at + 4)
   pub low : at + 19 ≤ cell.next
@@ -57,8 +56,8 @@ next-turn p zero at pg h g = absurd (omega arith)
 next-turn p (suc n) at pg h g = by_step (step_of pg p g.key g.creator at) refl g.judged
   where
     by_step : (r : Step) → step_of pg p g.key g.creator at ≡ r
-        → on_step (λ x. judge_cells pg p x.key x.version.creator n x.next) (λ f. Judged.Bad f) r ≡ Judged.Ok g.end → Turn p (suc n) at pg
-    by_step (Step.Bad f) q w = absurd (let z : ◌≡◌ {A = ℕ} 0 1 = cc in omega arith)
+        → on_step (λ x. judge_cells pg p x.key x.version.creator n x.next) (λ f. Err f) r ≡ Ok g.end → Turn p (suc n) at pg
+    by_step (Step.Bad f) q w = absurd (cc)
     by_step (Step.Got x) q w =
         let t = (step-cell pg p g.key g.creator at (sym q) refl).0 in
         let a = cell_placed pg at x t in

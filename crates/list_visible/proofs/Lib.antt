@@ -12,7 +12,6 @@ pub mod Pushing
 pub mod Listing
 pub mod Ranging
 pub mod Slowness
-pub mod Lessening
 pub mod Slowing
 pub mod Fitting
 pub mod Ending

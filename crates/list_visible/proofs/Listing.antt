@@ -1,4 +1,6 @@
 -- The second pass gives the listing of section 4 where no key falls, and never more bytes than all versions have. Assumes nothing.
+use Rattle.row.specs.declared.Fault.{Fault}
+use Rattle.std.proofs.Common.{Ok, Result, Err}
 use mathlib.Core.Path.{◌≡◌, refl, sym, ap, ◌∙◌}
 use mathlib.Core.Bool.{Bool, true, false}
 use mathlib.Core.List.{List, [], ◌∷◌, ◌++◌, append_assoc, append-nil}
@@ -12,11 +14,9 @@ use Rattle.page.specs.Page.{page}
 use Rattle.row.specs.Read.{cell_at}
 use Rattle.row.specs.Write.{record_bytes}
 use Rattle.row.specs.declared.Cell.{Cell}
-use Rattle.row.specs.declared.read.CellRead.{CellRead}
 use Rattle.mvcc.specs.Rules.{visible}
 use Rattle.leaf.specs.Cells.{cells, fold_cells}
 use Rattle.leaf.specs.Rows.{Row, row_of}
-use Rattle.tree.specs.Chain.{Told, ok, ill}
 use Rattle.list_records.specs.Records.{records}
 use Rattle.list_visible.specs.Visible.{chain_rows, visible_rows, entered_row, newest_each, scan_rows}
 use Rattle.list_visible.specs.Steps.Fast.{chosen_of, step_from, scanned, scan_leaf, start_scan, wait_bytes, pushed_by, pushed, pushed_all, Pass, look_pass, pass_along}
@@ -29,7 +29,7 @@ use Rattle.list_visible.proofs.Falling.{last_of}
 use Rattle.list_visible.proofs.Pushing.{VersionIs, lists_none, lists_all, Kept, step_kept, skip_kept}
 
 -- a cell by its place in the pool is its row
-version_is : (p : ℕ) (c : Cell) (s : List ℕ) → AreBytes s → cell_at (page s p) c.at ≡ CellRead.Got c → VersionIs s (chosen_of p c) (row_of (page s p) c)
+version_is : (p : ℕ) (c : Cell) (s : List ℕ) → AreBytes s → cell_at (page s p) c.at ≡ Ok c → VersionIs s (chosen_of p c) (row_of (page s p) c)
 version_is p c s B e =
     let n : p * 4096 + c.next - (p * 4096 + c.at) ≡ c.next - c.at = omega arith in
     record { key-is = refl; creator-is = refl; bytes_are = cell-record p c s e B ∙ ap (λ (k : ℕ). record_bytes 1 (part (p * 4096 + c.at) k s)) (sym n) }
@@ -55,7 +55,7 @@ module _ (sn : Snapshot) (st : ℕ → ℕ) (s : List ℕ) where
     abbrev Held : List Row → Pass → Type 0
     Held rs a = Kept s rs (scan_rows sn st rs) a.scan.wait a.bytes
 
-    held_more : (p : ℕ) (c : Cell) (rs : List Row) (a : Pass) → p < used → cell_at (page s p) c.at ≡ CellRead.Got c → Held rs a → Held (rs ++ (row_of (page s p) c ∷ [])) (gather p a c)
+    held_more : (p : ℕ) (c : Cell) (rs : List Row) (a : Pass) → p < used → cell_at (page s p) c.at ≡ Ok c → Held rs a → Held (rs ++ (row_of (page s p) c ∷ [])) (gather p a c)
     unfolding scanned pushed
     held_more p c rs a h e k = rw (scan_snoc sn st rs r) (by_seen (visible sn st c.version.creator c.version.stamp))
       where
@@ -80,9 +80,9 @@ module _ (sn : Snapshot) (st : ℕ → ℕ) (s : List ℕ) where
 pub fast_lists : FastLists
 fast_lists sn st used p s rs B room e = by_told (pass_along s used p sn st) refl (rw e at (pass_holds sn st s used B p))
   where
-    by_told : (t : Told Pass) → pass_along s used p sn st ≡ t → Alike (Held sn st s used B) (ok rs) t → FastIs sn st used p s rs
-    by_told (ill f) q h = absurd h
-    by_told (ok a) q h =
+    by_told : (t : Result Pass Fault) → pass_along s used p sn st ≡ t → Alike (Held sn st s used B) (Ok rs) t → FastIs sn st used p s rs
+    by_told (Err f) q h = absurd h
+    by_told (Ok a) q h =
         record {
           end = a;
           pass = q;

@@ -1,5 +1,6 @@
 -- The second pass over a judged leaf, which measures: the cells that are left, from what waits now on, give what all of them
 -- give. Assumes nothing.
+use Rattle.std.proofs.Common.{Option, Some}
 use mathlib.Core.Path.{◌≡◌, refl, sym, ap, ◌∙◌}
 use mathlib.Core.Bool.{Bool, true, false}
 use mathlib.Core.List.{List}
@@ -17,7 +18,6 @@ use Rattle.mvcc.specs.Rules.{visible}
 use Rattle.leaf.specs.Cells.{cells_of, fold_cells}
 use Rattle.list_visible.specs.Steps.Fast.{chosen_of, step_from, scanned, scan_leaf, WasJudged, Whole}
 use Rattle.list_visible.specs.declared.pass.Chosen.{Chosen}
-use Rattle.list_visible.specs.declared.pass.Wait.{Wait}
 use Rattle.list_visible.specs.declared.pass.Scan.{Scan}
 use Rattle.mvcc.specs.Snapshot.{Snapshot}
 use Rattle.list_visible.proofs.Stepping.{step_wait, step_more}
@@ -46,7 +46,7 @@ module _ (sn : Snapshot) (st : ℕ → ℕ) (p : ℕ) where
       by_seen false = omega arith
 
   -- what waits afterwards: what waited, or the cell
-  pub scanned_wait : (sc : Scan) (x : Cell) (P : Wait → Type 0) → P sc.wait → P (Wait.For (chosen_of p x)) → P (scanned sn st p sc x).wait
+  pub scanned_wait : (sc : Scan) (x : Cell) (P : Option Chosen → Type 0) → P sc.wait → P (Some (chosen_of p x)) → P (scanned sn st p sc x).wait
   unfolding scanned
   scanned_wait sc x P old new = by_seen (visible sn st x.version.creator x.version.stamp)
     where
@@ -77,15 +77,15 @@ module _ (sn : Snapshot) (st : ℕ → ℕ) (p : ℕ) where
         over zero l e = e
         over (suc k) l e = absurd (omega arith)
 
-    pub measuring_turn : (t : Turn p n at pg) {end : ℕ} {d : Scan} → length pg ≡ 4096 → end ≡ at + 8 + le_at 4 pg (at + 4) → d ≡ scanned sn st p sc t.cell
-        → Measuring goal first pg (n - 1) end d
+    pub measuring_turn : (t : Turn p n at pg) {m end : ℕ} {d : Scan} → m ≡ n - 1 → length pg ≡ 4096 → end ≡ at + 8 + le_at 4 pg (at + 4) → d ≡ scanned sn st p sc t.cell
+        → Measuring goal first pg m end d
     unfolding fold_cells
-    measuring_turn t {end} {d} l e u =
+    measuring_turn t {m} {end} {d} left l e u =
         let next : end ≡ t.cell.next = e ∙ sym t.next-is in
         let x = t.cell in
         let small = scanned_more sc x w.whole in
-        let waits : Whole (Wait.For (chosen_of p x)) = (omega (arith, t.here, t.low), omega (arith, t.here, t.inside)) in
-        rw (next, u)
+        let waits : Whole (Some (chosen_of p x)) = (omega (arith, t.here, t.low), omega (arith, t.here, t.inside)) in
+        rw (left, next, u)
         (record {
           going = t.going;
           same = rw t.more at w.same;

@@ -1,5 +1,6 @@
 -- The second pass over a judged leaf, which writes: the records that are left, put from the length so far on into the output
 -- as it is now, give what all of them give. Assumes nothing.
+use Rattle.std.proofs.Common.{Option, Some, None, Ok}
 use mathlib.Core.Path.{◌≡◌, refl, sym, ap, ◌∙◌}
 use mathlib.Core.Bool.{Bool, true, false}
 use mathlib.Core.List.{List, [], ◌++◌}
@@ -15,13 +16,11 @@ use Rattle.page.specs.Header.{cell_count}
 use Rattle.page.specs.Key.{rank_at}
 use Rattle.row.specs.Read.{stamp_in, cell_at}
 use Rattle.row.specs.declared.Cell.{Cell}
-use Rattle.row.specs.declared.read.CellRead.{CellRead}
 use Rattle.mvcc.specs.Rules.{visible}
 use Rattle.leaf.specs.Cells.{cells_of, cells, fold_cells}
 use Rattle.call_answers.specs.Answer.{written, Written}
 use Rattle.list_visible.specs.Steps.Fast.{chosen_of, record_size, waiting_for, step_from, scanned, scan_leaf, wait_bytes, pushed_by, pushed, pushed_all, pass_leaf, WasJudged, Waits}
 use Rattle.list_visible.specs.declared.pass.Chosen.{Chosen}
-use Rattle.list_visible.specs.declared.pass.Wait.{Wait}
 use Rattle.list_visible.specs.declared.pass.Scan.{Scan}
 use Rattle.mvcc.specs.Snapshot.{Snapshot}
 use Rattle.store.proofs.PutLaws.{put_nil, length-put, put-after_at}
@@ -39,7 +38,7 @@ cells-none at pg (suc n) h = absurd (omega arith)
 -- ---- what a cell does to what waits, and to the length
 
 -- a cell of a page in use
-pub cell-waits : (used p at : ℕ) (s : List ℕ) {x : Cell} → used * 4096 ≤ length s → p < used → cell_at (page s p) at ≡ CellRead.Got x → Waits (Wait.For (chosen_of p x)) s
+pub cell-waits : (used p at : ℕ) (s : List ℕ) {x : Cell} → used * 4096 ≤ length s → p < used → cell_at (page s p) at ≡ Ok x → Waits (Some (chosen_of p x)) s
 cell-waits used p at s {x} room h e =
     let a = cell_placed (page s p) at x e in
     let l = page_short p s in
@@ -48,15 +47,15 @@ cell-waits used p at s {x} room h e =
     (omega arith, omega arith, omega arith)
 
 module _ (p : ℕ) (s : List ℕ) (sc : Scan) where
-  step-size : (x : Chosen) (wait : Wait) → Waits wait s → (step_from wait sc x).size ≡ sc.size + length (pushed_by wait x s)
-  step-size x Wait.Nothing w = omega arith
-  step-size x (Wait.For o) w = by_tests (eqb o.key x.key) (ltb o.creator x.creator)
+  step-size : (x : Chosen) (wait : Option Chosen) → Waits wait s → (step_from wait sc x).size ≡ sc.size + length (pushed_by wait x s)
+  step-size x None w = omega arith
+  step-size x (Some o) w = by_tests (eqb o.key x.key) (ltb o.creator x.creator)
     where
       by_tests : (a b : Bool)
-          → (pick a (pick b (waiting_for x sc.size) sc) (waiting_for x (sc.size + record_size o))).size ≡ sc.size + length (pick a [] (wait_bytes (Wait.For o) s))
+          → (pick a (pick b (waiting_for x sc.size) sc) (waiting_for x (sc.size + record_size o))).size ≡ sc.size + length (pick a [] (wait_bytes (Some o) s))
       by_tests true true = omega arith
       by_tests true false = omega arith
-      by_tests false b = rw (length_wait (Wait.For o) s w)
+      by_tests false b = rw (length_wait (Some o) s w)
 
   pub scanned-size : (sn : Snapshot) (st : ℕ → ℕ) (x : Cell) → Waits sc.wait s
       → (scanned sn st p sc x).size ≡ sc.size + length (pushed sn st p sc x s)
@@ -136,10 +135,10 @@ module _ (sn : Snapshot) (st : ℕ → ℕ) (p : ℕ) (s : List ℕ) where
           let m = ap (λ (x : Chosen). length (pushed_by sc.wait x s)) (turn_chosen t e q) in
           omega (arith, fits, w.long, m, ap length is)
 
-      pub writing_turn : (used : ℕ) {end : ℕ} {d : Scan} {y : List ℕ} → used * 4096 ≤ length s → p < used → pg ≡ page s p → length pg ≡ 4096 → end ≡ at + 8 + le_at 4 pg (at + 4)
-          → written d y ≡ written (scanned sn st p sc t.cell) (put sc.size pushes out) → Writing l goal pg (n - 1) end d y
+      pub writing_turn : (used : ℕ) {m end : ℕ} {d : Scan} {y : List ℕ} → m ≡ n - 1 → used * 4096 ≤ length s → p < used → pg ≡ page s p → length pg ≡ 4096 → end ≡ at + 8 + le_at 4 pg (at + 4)
+          → written d y ≡ written (scanned sn st p sc t.cell) (put sc.size pushes out) → Writing l goal pg m end d y
       unfolding fold_cells
-      writing_turn used {end} {d} {y} room h here long e u =
+      writing_turn used {m} {end} {d} {y} left room h here long e u =
           let next : end ≡ t.cell.next = e ∙ sym t.next-is in
           let a : d ≡ scanned sn st p sc t.cell = ap (λ (z : Written Scan). z.answer) u in
           let b : y ≡ put sc.size pushes out = ap (λ (z : Written Scan). z.output) u in
@@ -149,7 +148,7 @@ module _ (sn : Snapshot) (st : ℕ → ℕ) (p : ℕ) (s : List ℕ) where
           let some : sc.size + length pushes ≤ length out = omega (arith, fits, w.long) in
           let all : written (fold_cells (scanned sn st p) f (cells_of pg (n - 1) t.cell.next)) (put sc.size (pushes ++ later) out) ≡ goal
           = rw (split, t.more) at w.same in
-          rw (next, a, b)
+          rw (left, next, a, b)
           (record {
             going = t.going;
             within = omega (arith, t.inside);

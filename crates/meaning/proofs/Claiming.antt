@@ -2,7 +2,7 @@
 -- Assumes nothing.
 use mathlib.Core.Path.{◌≡◌, refl, sym, ap, ◌∙◌}
 use mathlib.Core.List.{List, [], ◌∷◌}
-use mathlib.Core.Option.{some}
+use Rattle.std.proofs.Common.{Some}
 use Prim.Native.Nat.{ℕ}
 use native.Mathlib.Omega.{arith}
 use Rattle.page.specs.declared.pool.State.{State}
@@ -76,7 +76,7 @@ first_from effect looks refuses g t key one two ss tree fits₁ fits₂ apart af
     claim₂ : Claimed key two ss (chain t)
     claim₂ = has_claimed effect g t key two ss tree fits₂ done₂
 
-    found : some claim₁.version ≡ some claim₂.version
+    found : Some claim₁.version ≡ Some claim₂.version
     found =
         sym claim₁.chosen ∙ sym (looks g t key one ss tree claim₁.active-good claim₁.statuses-good) ∙ ap (row_found g.pool) same
         ∙ looks g t key two ss tree claim₂.active-good claim₂.statuses-good ∙ claim₂.chosen

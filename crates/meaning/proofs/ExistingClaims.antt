@@ -1,5 +1,6 @@
 -- Two claims that meet all premises of the second half of demand 3: each alone stamps the one row of a root leaf, which has room.
 -- Assumes nothing.
+use Rattle.std.proofs.Common.{None, Ok}
 use mathlib.Core.Path.{◌≡◌, refl, sym, ap, ◌∙◌}
 use mathlib.Core.Bool.{true, false}
 use mathlib.Core.List.{List, [], ◌∷◌, map}
@@ -12,7 +13,6 @@ use Rattle.store.specs.Part.{zeros}
 use Rattle.page.specs.Page.{page}
 use Rattle.page.specs.declared.pool.State.{State}
 use Rattle.row.specs.declared.Cell.{Cell}
-use Rattle.row.specs.declared.Stamp.{Stamp}
 use Rattle.mvcc.specs.Lists.{state_at, rising_from, rising, are_states, mem, good_active}
 use Rattle.mvcc.specs.Snapshot.{lookup, good_statuses, no_statuses}
 use Rattle.mvcc.specs.Rules.{is_current, of_deleter, finished_with, finished_before, visible, changed_after, conflicting, claim_conflicting}
@@ -20,14 +20,12 @@ use Rattle.leaf.specs.Cells.{cells, fold_cells}
 use Rattle.leaf.specs.Find.{newest}
 use Rattle.leaf.specs.Rows.{Row, row_of, rows, rows_bytes}
 use Rattle.tree.specs.Climb.{path_of}
-use Rattle.tree.specs.declared.ChainTest.{ChainTest}
 use Rattle.page.specs.Pool.{Grown, grown}
-use Rattle.tree_room.specs.Room.{planned, fitting, room_of}
+use Rattle.tree_room.specs.Room.{fitting, room_of}
 use Rattle.tree_stamp.specs.Target.{beside_of, target_of}
 use Rattle.tree_stamp.specs.Stamp.{longer, bytes_stamped, cut_stamped, stamp_plan}
 use Rattle.tree_stamp.specs.Ready.{marking_at}
 use Rattle.call_read.specs.Find.{find_visible_run}
-use Rattle.call_answers.specs.declared.Looked.{Looked}
 use Rattle.call_stamp.specs.Mark.{conflict_told, mark_ready}
 use Rattle.call_stamp.specs.Claim.{claim_ready, claim_run, claim_call}
 use Rattle.theory_tree.specs.Pages.{Pages, leaf_page, with_page}
@@ -107,7 +105,7 @@ module _ (g : Grown) (tree : TreeIn g alone) where
   unfolding beside_of fold_cells
   fits = rw one.are (le-ltb 4084 (one.cell.next - 12 + longer one.cell) (omega (arith, ends)))
 
-  plans : stamp_plan g.pool g.state (target_of pg 0 one.cell) ≡ planned (fitting (path_of (0 ∷ [])))
+  plans : stamp_plan g.pool g.state (target_of pg 0 one.cell) ≡ Ok (fitting (path_of (0 ∷ [])))
   unfolding stamp_plan
   plans = rw fits (leaf-planned g alone tree top 0 (seat ∷ []) refl false (cut_stamped pg (target_of pg 0 one.cell)))
 
@@ -115,17 +113,17 @@ module _ (g : Grown) (tree : TreeIn g alone) where
   creator = ap (λ (r : Row). r.creator) one.is
 
   -- by a transaction that sees the row, meets no conflict and is not 0
-  module _ (n : ℕ) (sees : visible (teacher n) (lookup no_statuses) 5 Stamp.Absent ≡ true) where
-    finds : find_visible_run g.pool g.state 7 (teacher n) no_statuses ≡ Looked.At 0 one.cell
+  module _ (n : ℕ) (sees : visible (teacher n) (lookup no_statuses) 5 None ≡ true) where
+    finds : find_visible_run g.pool g.state 7 (teacher n) no_statuses ≡ Ok (0, one.cell)
     unfolding find_visible_run good_active good_statuses rising_from rising are_states fold_cells newest
     finds =
         let told = best-told (teacher n) (lookup no_statuses) 7 g.pool root used alone tree.formed in
         let key : one.cell.key ≡ 7 = ap (λ (r : Row). r.key) one.is in
-        let stamp : one.cell.version.stamp ≡ Stamp.Absent = ap (λ (r : Row). r.stamp) one.is in
+        let stamp : one.cell.version.stamp ≡ None = ap (λ (r : Row). r.stamp) one.is in
         rw (tree.good, told, one.are, key, creator, stamp, sees)
 
-    module _ (free : claim_conflicting (teacher n) (lookup no_statuses) 5 5 Stamp.Absent ≡ false) (some : eqb n 0 ≡ false) where
-      unmet : conflict_told g.pool g.state 7 (teacher n) no_statuses true 5 ≡ ChainTest.Ok false
+    module _ (free : claim_conflicting (teacher n) (lookup no_statuses) 5 5 None ≡ false) (some : eqb n 0 ≡ false) where
+      unmet : conflict_told g.pool g.state 7 (teacher n) no_statuses true 5 ≡ Ok false
       unmet = test_is true (teacher n) (lookup no_statuses) 5 7 g.pool root used alone tree.formed ∙ rw free
 
       claims_it : (run (claims 7 (teacher n) no_statuses) g).number ≡ 0

@@ -1,5 +1,6 @@
 -- Pools that are built page by page, by the laws of stores and not by computing on their bytes: each page says what it was
 -- made to say, and a pool is no BadPool. Assumes nothing.
+use Rattle.std.proofs.Common.{None}
 use mathlib.Core.Path.{◌≡◌, refl, sym, ap, ◌∙◌}
 use mathlib.Core.List.{List, [], ◌∷◌, ◌++◌}
 use Prim.Native.Nat.{ℕ, ◌+◌, ◌*◌, ◌/◌, ◌≤◌, ◌<◌}
@@ -12,8 +13,6 @@ use Rattle.page.specs.Header.{node_type, parent_of, next_leaf, with_node_type, w
 use Rattle.page.specs.Key.{flip}
 use Rattle.page.specs.Page.{set_page}
 use Rattle.page.specs.declared.pool.State.{State}
-use Rattle.row.specs.declared.Pointer.{Pointer}
-use Rattle.row.specs.declared.Stamp.{Stamp}
 use Rattle.leaf.specs.Rows.{Row, AllFit, row_bytes, rows_bytes, write_rows}
 use Rattle.inner_edit.specs.Edit.{top_page}
 use Rattle.page.specs.Pool.{grown}
@@ -117,7 +116,7 @@ row_bytes_lem : (key : ℕ) → AreBytes (rows_bytes (row_for key ∷ []))
 unfolding rows_bytes
 row_bytes_lem key =
     let body : AreBytes (1 ∷ 2 ∷ []) = bytes_more 1 (2 ∷ []) (omega arith) (bytes_more 2 [] (omega arith) bytes-none) in
-    bytes-append (row_bytes (row_for key)) [] (bytes-cell key 5 Stamp.Absent Pointer.Absent (1 ∷ 2 ∷ []) body) bytes-none
+    bytes-append (row_bytes (row_for key)) [] (bytes-cell key 5 None None (1 ∷ 2 ∷ []) body) bytes-none
 
 row_few : (key : ℕ) → length (rows_bytes (row_for key ∷ [])) ≤ 4084
 unfolding rows_bytes

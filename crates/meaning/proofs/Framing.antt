@@ -1,13 +1,15 @@
 -- A call on a tree changes that tree's pages and pages that it takes: every other page in use stays as it was. Assumes nothing.
+use Rattle.call_answers.specs.declared.Refusal.{Refusal}
+use Rattle.call_answers.specs.declared.Refused.{Refused}
+use Rattle.std.proofs.Common.{Some, None, Result, Ok, Err, Option}
 use mathlib.Core.Path.{◌≡◌, refl, sym, subst}
 use mathlib.Core.Bool.{Bool, true, false, or-true}
 use mathlib.Core.List.{List, [], ◌∷◌, ◌++◌}
-use mathlib.Core.Option.{Option, none, some}
 use Prim.Native.Nat.{ℕ, ◌+◌, ◌/◌, ◌≤◌, ◌<◌}
 use native.Mathlib.Omega.{arith}
 use lib.Dec.{leb, ltb, eqb}
 use lib.ListN.{length}
-use borrow.Author.Tests.{leb-true, eqb-true, eq-eqb}
+use borrow.Author.Tests.{leb-true, eq-eqb}
 use Rattle.store.specs.Le.{AreBytes}
 use Rattle.store.specs.Part.{part}
 use Rattle.store.specs.Pick.{pick}
@@ -15,35 +17,29 @@ use Rattle.page.specs.Header.{cell_count}
 use Rattle.page.specs.Page.{page, set_page}
 use Rattle.page.specs.declared.pool.State.{State}
 use Rattle.row.specs.declared.Cell.{Cell}
-use Rattle.row.specs.declared.Stamp.{Stamp}
 use Rattle.row.specs.declared.Pointer.{Pointer}
 use Rattle.mvcc.specs.Lists.{mem}
 use Rattle.mvcc.specs.Snapshot.{lookup, good_statuses, creator_of, Snapshot, Statuses, good_snapshot, plain_snapshot}
-use Rattle.mvcc.specs.declared.Current.{Current}
 use Rattle.leaf.specs.Rows.{Row, RowFits, row_size, row_bytes, rows_bytes, write_rows}
-use Rattle.leaf.specs.declared.find.Best.{Best}
+use Rattle.leaf.specs.Find.{Best}
 use Rattle.leaf.specs.declared.place.Cut.{Cut}
 use Rattle.tree.specs.Climb.{path_of}
-use Rattle.tree.specs.declared.ChainBest.{ChainBest}
-use Rattle.tree.specs.declared.ChainTest.{ChainTest}
 use Rattle.page.specs.Pool.{Grown}
 use Rattle.tree_grow.specs.Plan.{division_of}
-use Rattle.row.specs.Fault.{no_fault}
 use Rattle.tree_room.specs.Room.{dividing, room_of}
 use Rattle.tree_room.specs.Up.{divided_up}
 use Rattle.tree_room.specs.declared.Planned.{Planned}
 use Rattle.tree_insert.specs.Insert.{bytes_with, cut_with, inserted_at}
-use Rattle.tree_insert.specs.Ready.{ready, not_ready, on_ready, ready_by_room}
+use Rattle.tree_insert.specs.Ready.{on_ready, ready_by_room}
 use Rattle.tree_insert.specs.declared.ready.Ready.{Ready}
 use Rattle.tree_insert.specs.declared.Spot.{Spot}
 use Rattle.tree_stamp.specs.Target.{target_of}
 use Rattle.tree_stamp.specs.Stamp.{bytes_stamped, cut_stamped, stamped_at}
-use Rattle.tree_stamp.specs.Ready.{marking, not_marking, marking_by_room, marking_at}
+use Rattle.tree_stamp.specs.Ready.{marking_by_room, marking_at}
 use Rattle.tree_stamp.specs.declared.Target.{Target}
 use Rattle.tree_stamp.specs.declared.ready.Marking.{Marking}
 use Rattle.call_read.specs.Find.{looked_best, find_visible_run}
 use Rattle.call_answers.specs.Answer.{refusal_of, stays, changed_to}
-use Rattle.call_answers.specs.declared.Looked.{Looked}
 use Rattle.call_insert.specs.Insert.{insert_version_run, insert_version_call, insert_run, insert_call}
 use Rattle.call_stamp.specs.Mark.{on_looked, conflict_told, mark_ready, marked, mark_run, mark_call}
 use Rattle.call_stamp.specs.Claim.{claim_ready, claim_run, claim_call}
@@ -120,7 +116,7 @@ module _ (g : Grown) (t : Shape) (tree : TreeIn g t) where
 
   -- ---- a new version
 
-  abbrev inserted_by : (b : List ℕ) → Ready → List ℕ
+  abbrev inserted_by : (b : List ℕ) → Result Ready Refused → List ℕ
   inserted_by b x = (on_ready (λ x plan. changed_to (inserted_at x plan b g)) (stays s) x).pool
 
   module _ (r : Row) (fits : RowFits r) (B : AreBytes r.body) where
@@ -142,7 +138,7 @@ module _ (g : Grown) (t : Shape) (tree : TreeIn g t) where
     abbrev cut_with_lem : Cut
     cut_with_lem = cut_with (page s q) spot_for_lem (row_size r)
 
-    insert_over : (over : Bool) → ltb 4084 size ≡ over → room_of (length s / 4096) st size (plan_above at_way q over cut_with_lem s) ≡ 0
+    insert_over : (over : Bool) → ltb 4084 size ≡ over → room_of (length s / 4096) st size (plan_above at_way q over cut_with_lem s) ≡ Ok tt
         → Apart (inserted_at spot_for_lem (plan_above at_way q over cut_with_lem s) (row_bytes r) g).pool
     unfolding inserted_at
     insert_over true o room =
@@ -159,23 +155,23 @@ module _ (g : Grown) (t : Shape) (tree : TreeIn g t) where
     abbrev plan_for : Planned
     plan_for = insert_planned g t tree r fits.key (row_size r)
 
-    abbrev room_for : ℕ
+    abbrev room_for : Result Unit Refusal
     room_for = insert_room g t tree r fits.key (row_size r)
 
-    insert-room : (b : Bool) → eqb room_for 0 ≡ b → Apart (inserted_by (row_bytes r) (pick b (ready spot_for_lem plan_for) (not_ready room_for no_fault)))
-    insert-room true e = insert_over (ltb 4084 size) refl (eqb-true room_for 0 e)
-    insert-room false e = all_stay
+    insert-room : (x : Result Unit Refusal) → room_for ≡ x → Apart (inserted_by (row_bytes r) (ready_by_room spot_for_lem plan_for x))
+    insert-room (Ok tt) e = insert_over (ltb 4084 size) refl e
+    insert-room (Err n) e = all_stay
 
     insert-apart : Apart (inserted_by (row_bytes r) (ready_by_room spot_for_lem plan_for room_for))
-    insert-apart = insert-room (eqb room_for 0) refl
+    insert-apart = insert-room room_for refl
 
   -- ---- a stamp
 
-  abbrev marked_by : (d : ℕ) → Marking → List ℕ
+  abbrev marked_by : (d : ℕ) → Result Marking Refused → List ℕ
   marked_by d x = (marked s st d x).pool
 
   module _ (claiming : Bool) (key d : ℕ) (sn : Snapshot) (ss : Statuses) (low : d < 18446744073709551616) (more : ℕ → Bool)
-      (told : (seen : ℕ) → conflict_told s st key sn ss claiming seen ≡ ChainTest.Ok (more seen)) where
+      (told : (seen : ℕ) → conflict_told s st key sn ss claiming seen ≡ Ok (more seen)) where
     abbrev v : Row → Bool
     v = seen_by sn (lookup ss)
 
@@ -192,7 +188,7 @@ module _ (g : Grown) (t : Shape) (tree : TreeIn g t) where
       abbrev rows-stamped : List Row
       rows-stamped = stamped_rows d here.before c here.after (page s p)
 
-      stamp_over : (over : Bool) → ltb 4084 total ≡ over → room_of (length s / 4096) st total (plan_above here.ctx p over cut_stamped_lem s) ≡ 0
+      stamp_over : (over : Bool) → ltb 4084 total ≡ over → room_of (length s / 4096) st total (plan_above here.ctx p over cut_stamped_lem s) ≡ Ok tt
           → Apart (stamped_at d target (plan_above here.ctx p over cut_stamped_lem s) g).pool
       unfolding stamped_at
       stamp_over true o room =
@@ -211,31 +207,31 @@ module _ (g : Grown) (t : Shape) (tree : TreeIn g t) where
       abbrev stamp_plan_lem : Planned
       stamp_plan_lem = stamp_planned g t tree v key p c here
 
-      abbrev stamp-left : ℕ
+      abbrev stamp-left : Result Unit Refusal
       stamp-left = stamp_room g t tree v key p c here
 
-      stamp-room : (b : Bool) → eqb stamp-left 0 ≡ b → Apart (marked_by d (pick b (marking target stamp_plan_lem) (not_marking stamp-left no_fault)))
-      stamp-room true e = stamp_over (ltb 4084 total) refl (eqb-true stamp-left 0 e)
-      stamp-room false e = all_stay
+      stamp-room : (x : Result Unit Refusal) → stamp-left ≡ x → Apart (marked_by d (marking_by_room target stamp_plan_lem x))
+      stamp-room (Ok tt) e = stamp_over (ltb 4084 total) refl e
+      stamp-room (Err n) e = all_stay
 
-      by_more : (b : Bool) → Apart (marked_by d (pick b (not_marking 7 no_fault) (marking_by_room target stamp_plan_lem stamp-left)))
+      by_more : (b : Bool) → Apart (marked_by d (pick b (Err (refusal_of Refusal.Conflict)) (marking_by_room target stamp_plan_lem stamp-left)))
       by_more true = all_stay
-      by_more false = stamp-room (eqb stamp-left 0) refl
+      by_more false = stamp-room stamp-left refl
 
-    abbrev mark_on : Looked → Marking
+    abbrev mark_on : Result (ℕ × Cell) Refused → Result Marking Refused
     mark_on x =
         on_looked (λ p c. marking_at s st (conflict_told s st key sn ss claiming c.version.creator) (target_of (page s p) p c))
-        (λ r. not_marking r.number r.fault) x
+        (λ r. Err r) x
 
-    by_found : (b : Best) → StandsBy sn (lookup ss) key s t b → Apart (marked_by d (mark_on (looked_best (ChainBest.Ok b))))
-    by_found Best.Nothing z = all_stay
-    by_found (Best.At p c) z = rw (told c.version.creator, marking_at_lem g t tree v key p c z (more c.version.creator)) (by_more p c z (more c.version.creator))
+    by_found : (b : Best) → StandsBy sn (lookup ss) key s t b → Apart (marked_by d (mark_on (looked_best (Ok b))))
+    by_found None z = all_stay
+    by_found (Some (p, c)) z = rw (told c.version.creator, marking_at_lem g t tree v key p c z (more c.version.creator)) (by_more p c z (more c.version.creator))
 
     found_it : BestIs sn (lookup ss) key s st.root st.used t
     found_it = found g t tree key sn ss
 
     by_lists : (a b : Bool)
-        → Apart (marked_by d (mark_on (pick a (pick b (looked_best (ChainBest.Ok found_it.found)) (Looked.Refused (refusal_of 4))) (Looked.Refused (refusal_of 3)))))
+        → Apart (marked_by d (mark_on (pick a (pick b (looked_best (Ok found_it.found)) (Err (refusal_of Refusal.BadStatuses))) (Err (refusal_of Refusal.BadSnapshot)))))
     by_lists true true = by_found found_it.found found_it.stands
     by_lists true false = all_stay
     by_lists false b = all_stay
@@ -246,14 +242,14 @@ module _ (g : Grown) (t : Shape) (tree : TreeIn g t) where
 
   -- ---- the four calls
 
-  module _ (key creator : ℕ) (stamp : Stamp) (pointer : Pointer) (body : List ℕ) (fits : Fits (inserts_version key creator stamp pointer body)) where
+  module _ (key creator : ℕ) (stamp : Option ℕ) (pointer : Option Pointer) (body : List ℕ) (fits : Fits (inserts_version key creator stamp pointer body)) where
     abbrev new : Row
     new = record { key = key; creator = creator; stamp = stamp; pointer = pointer; body = body }
 
-    abbrev new_ready : Ready
+    abbrev new_ready : Result Ready Refused
     new_ready = ready_by_room (spot_for g t tree new fits.0) (insert_planned g t tree new fits.0 (row_size new)) (insert_room g t tree new fits.0 (row_size new))
 
-    by_length : (b : Bool) → leb (length body) 4051 ≡ b → Apart (inserted_by (row_bytes new) (pick b new_ready (not_ready 5 no_fault)))
+    by_length : (b : Bool) → leb (length body) 4051 ≡ b → Apart (inserted_by (row_bytes new) (pick b new_ready (Err (refusal_of Refusal.BadData))))
     by_length true e =
         insert-apart new (record { key = fits.0; creator = fits.1; stamp = fits.2; pointer = fits.3; body = leb-true (length body) 4051 e }) fits.4
     by_length false e = all_stay
@@ -262,19 +258,19 @@ module _ (g : Grown) (t : Shape) (tree : TreeIn g t) where
     unfolding run insert_version_call insert_version_run
     version_apart = rw (version_ready_lem g t tree new fits.0 stamp pointer (length body)) (by_length (leb (length body) 4051) refl)
 
-  module _ (key : ℕ) (body : List ℕ) (cur : Current) (ss : Statuses) (fits : Fits (inserts key cur ss body)) where
+  module _ (key : ℕ) (body : List ℕ) (cur : Option ℕ) (ss : Statuses) (fits : Fits (inserts key cur ss body)) where
     abbrev live : Row
     live = live_row key (creator_of cur) body
 
-    abbrev live_ready : Ready
+    abbrev live_ready : Result Ready Refused
     live_ready = ready_by_room (spot_for g t tree live fits.0) (insert_planned g t tree live fits.0 (row_size live)) (insert_room g t tree live fits.0 (row_size live))
 
-    by_best : leb (length body) 4051 ≡ true → (o : Option Row) → Apart (inserted_by (row_bytes live) (on_best live_ready (λ y. not_ready 6 no_fault) o))
-    by_best e none = insert-apart live (record { key = fits.0; creator = fits.1; stamp = tt; pointer = tt; body = leb-true (length body) 4051 e }) fits.2
-    by_best e (some y) = all_stay
+    by_best : leb (length body) 4051 ≡ true → (o : Option Row) → Apart (inserted_by (row_bytes live) (on_best live_ready (λ y. Err (refusal_of Refusal.Duplicate)) o))
+    by_best e None = insert-apart live (record { key = fits.0; creator = fits.1; stamp = tt; pointer = tt; body = leb-true (length body) 4051 e }) fits.2
+    by_best e (Some y) = all_stay
 
     by_tests : (a b : Bool) → leb (length body) 4051 ≡ b → (o : Option Row)
-        → Apart (inserted_by (row_bytes live) (pick a (pick b (on_best live_ready (λ y. not_ready 6 no_fault) o) (not_ready 5 no_fault)) (not_ready 4 no_fault)))
+        → Apart (inserted_by (row_bytes live) (pick a (pick b (on_best live_ready (λ y. Err (refusal_of Refusal.Duplicate)) o) (Err (refusal_of Refusal.BadData))) (Err (refusal_of Refusal.BadStatuses))))
     by_tests true true e o = by_best e o
     by_tests true false e o = all_stay
     by_tests false b e o = all_stay
@@ -291,7 +287,7 @@ module _ (g : Grown) (t : Shape) (tree : TreeIn g t) where
     stamp-apart = mark-apart false key d sn ss fits.1 (λ seen. false) (λ seen. refl)
 
   module _ (key : ℕ) (sn : Snapshot) (ss : Statuses) (fits : Fits (claims key sn ss)) where
-    by_current : (b : Bool) → Apart (marked_by (creator_of sn.current) (pick b (not_marking 3 no_fault) (mark_ready s st key sn ss true)))
+    by_current : (b : Bool) → Apart (marked_by (creator_of sn.current) (pick b (Err (refusal_of Refusal.BadSnapshot)) (mark_ready s st key sn ss true)))
     by_current true = all_stay
     by_current false =
         mark-apart true key (creator_of sn.current) sn ss fits.1 (λ seen. conflict_in key sn (lookup ss) seen (chain t))

@@ -1,5 +1,6 @@
 -- A new version stored in a well-formed tree, in place or with its leaf divided: the tree stays well-formed, and the version
 -- arrives last of its key and creator. Assumes nothing.
+use Rattle.std.proofs.Common.{Ok}
 use mathlib.Core.Path.{◌≡◌, refl, sym, ◌∙◌, subst}
 use mathlib.Core.Bool.{Bool, true, false}
 use mathlib.Core.List.{List, [], ◌∷◌, ◌++◌}
@@ -87,7 +88,7 @@ module _ (g : Grown) (t : Shape) (tree : TreeIn g t) (r : Row) (fits : RowFits r
   abbrev cut : Cut
   cut = cut_with (page s p) x (row_size r)
 
-  by_over : (over : Bool) → ltb 4084 (bytes_with x (row_size r)) ≡ over → room_of (length s / 4096) st (bytes_with x (row_size r)) (plan_above c p over cut s) ≡ 0
+  by_over : (over : Bool) → ltb 4084 (bytes_with x (row_size r)) ≡ over → room_of (length s / 4096) st (bytes_with x (row_size r)) (plan_above c p over cut s) ≡ Ok tt
       → Holding (pre_c c ++ (place r old ++ post_c c)) (inserted_at x (plan_above c p over cut s) (row_bytes r) g)
   unfolding inserted_at
   by_over true o room =
@@ -100,11 +101,11 @@ module _ (g : Grown) (t : Shape) (tree : TreeIn g t) (r : Row) (fits : RowFits r
       rw f.0
       (leaf_stored g t tree c p old is (place r old) new.0 new.1 bytes-new (insert_all_fit st.used s x r old spot holds sorted_old fits) f.1)
 
-  inserted : insert_room g t tree r fits.key (row_size r) ≡ 0
+  inserted : insert_room g t tree r fits.key (row_size r) ≡ Ok tt
       → Holding (pre_c c ++ (place r old ++ post_c c)) (inserted_at x (insert_planned g t tree r fits.key (row_size r)) (row_bytes r) g)
   inserted room = by_over (ltb 4084 (bytes_with x (row_size r))) refl room
 
-  pub arrives : insert_room g t tree r fits.key (row_size r) ≡ 0
+  pub arrives : insert_room g t tree r fits.key (row_size r) ≡ Ok tt
       → Arrived r (chain t) (inserted_at x (insert_planned g t tree r fits.key (row_size r)) (row_bytes r) g)
   arrives room =
       let h = inserted room in

@@ -1,11 +1,10 @@
 -- The last row that a test accepts, changed or looked for, seen through the versions of one key and creator.
 -- Assumes nothing.
+use Rattle.std.proofs.Common.{Option, None, Some}
 use mathlib.Core.Path.{◌≡◌, refl, sym, ap, ◌∙◌}
 use mathlib.Core.Bool.{Bool, true, false, ◌&&◌, ◌||◌}
 use mathlib.Core.List.{List, [], ◌∷◌}
-use mathlib.Core.Option.{Option, none, some}
 use Prim.Native.Nat.{ℕ}
-use native.Mathlib.Omega.{arith}
 use Rattle.store.specs.Pick.{pick}
 use Rattle.leaf.specs.Rows.{Row, only, of_key}
 use Rattle.leaf_edit.specs.EditFacts.{stamp_row}
@@ -44,8 +43,8 @@ change_none v f [] e = refl
 change_none v f (x ∷ xs) e = go (v x) (some_of v xs) e
   where
     go : (a b : Bool) → a || b ≡ false → pick b (x ∷ change_last v f xs) (pick a (f x ∷ xs) (x ∷ xs)) ≡ x ∷ xs
-    go true b e = absurd (let z : ◌≡◌ {A = ℕ} 0 1 = cc in omega arith)
-    go false true e = absurd (let z : ◌≡◌ {A = ℕ} 0 1 = cc in omega arith)
+    go true b e = absurd (cc)
+    go false true e = absurd (cc)
     go false false e = refl
 
 module _ (d k c : ℕ) (s : Row → Bool) where
@@ -82,41 +81,41 @@ module _ (d k c : ℕ) (s : Row → Bool) where
 
 -- ---- looked for
 
-pub last-seen : (v : Row → Bool) (y : Row) (l : List Row) → last_of v l ≡ some y → v y ≡ true
-last-seen v y [] h = absurd (let z : ◌≡◌ {A = ℕ} 0 1 = cc in omega arith)
+pub last-seen : (v : Row → Bool) (y : Row) (l : List Row) → last_of v l ≡ Some y → v y ≡ true
+last-seen v y [] h = absurd (cc)
 last-seen v y (x ∷ xs) h = go (last_of v xs) refl (v x) refl (last-seen v y xs) h
   where
-    go : (o : Option Row) → last_of v xs ≡ o → (b : Bool) → v x ≡ b → (last_of v xs ≡ some y → v y ≡ true) → or_else o (when b x) ≡ some y → v y ≡ true
-    go (some w) eo b eb i q = i (eo ∙ q)
-    go none eo true eb i q = let xy : x ≡ y = cc in ap v (sym xy) ∙ eb
-    go none eo false eb i q = absurd (let z : ◌≡◌ {A = ℕ} 0 1 = cc in omega arith)
+    go : (o : Option Row) → last_of v xs ≡ o → (b : Bool) → v x ≡ b → (last_of v xs ≡ Some y → v y ≡ true) → or_else o (when b x) ≡ Some y → v y ≡ true
+    go (Some w) eo b eb i q = i (eo ∙ q)
+    go None eo true eb i q = let xy : x ≡ y = cc in ap v (sym xy) ∙ eb
+    go None eo false eb i q = absurd (cc)
 
 -- a row that is found is there for any other test
-pub last-there : (v w : Row → Bool) (y : Row) (l : List Row) → w y ≡ true → last_of v l ≡ some y → some_of w l ≡ true
-last-there v w y [] g h = absurd (let z : ◌≡◌ {A = ℕ} 0 1 = cc in omega arith)
+pub last-there : (v w : Row → Bool) (y : Row) (l : List Row) → w y ≡ true → last_of v l ≡ Some y → some_of w l ≡ true
+last-there v w y [] g h = absurd (cc)
 last-there v w y (x ∷ xs) g h = go (last_of v xs) refl (v x) (w x) refl (last-there v w y xs g) h
   where
-    go : (o : Option Row) → last_of v xs ≡ o → (b d : Bool) → w x ≡ d → (last_of v xs ≡ some y → some_of w xs ≡ true)
-        → or_else o (when b x) ≡ some y → d || some_of w xs ≡ true
+    go : (o : Option Row) → last_of v xs ≡ o → (b d : Bool) → w x ≡ d → (last_of v xs ≡ Some y → some_of w xs ≡ true)
+        → or_else o (when b x) ≡ Some y → d || some_of w xs ≡ true
     go o eo b true ed i q = refl
-    go (some u) eo b false ed i q = i (eo ∙ q)
-    go none eo true false ed i q =
-        absurd (let xy : x ≡ y = cc in let t : false ≡ true = sym ed ∙ ap w xy ∙ g in let z : ◌≡◌ {A = ℕ} 0 1 = cc in omega arith)
-    go none eo false false ed i q = absurd (let z : ◌≡◌ {A = ℕ} 0 1 = cc in omega arith)
+    go (Some u) eo b false ed i q = i (eo ∙ q)
+    go None eo true false ed i q =
+        absurd (let xy : x ≡ y = cc in let t : false ≡ true = sym ed ∙ ap w xy ∙ g in cc)
+    go None eo false false ed i q = absurd (cc)
 
-pub last_some : (v : Row → Bool) (l : List Row) → last_of v l ≡ none → some_of v l ≡ false
+pub last_some : (v : Row → Bool) (l : List Row) → last_of v l ≡ None → some_of v l ≡ false
 last_some v [] h = refl
 last_some v (x ∷ xs) h = go (last_of v xs) refl (v x) (last_some v xs) h
   where
-    go : (o : Option Row) → last_of v xs ≡ o → (b : Bool) → (last_of v xs ≡ none → some_of v xs ≡ false) → or_else o (when b x) ≡ none → b || some_of v xs ≡ false
-    go (some u) eo b i q = absurd (let z : ◌≡◌ {A = ℕ} 0 1 = cc in omega arith)
-    go none eo true i q = absurd (let z : ◌≡◌ {A = ℕ} 0 1 = cc in omega arith)
-    go none eo false i q = i eo
+    go : (o : Option Row) → last_of v xs ≡ o → (b : Bool) → (last_of v xs ≡ None → some_of v xs ≡ false) → or_else o (when b x) ≡ None → b || some_of v xs ≡ false
+    go (Some u) eo b i q = absurd (cc)
+    go None eo true i q = absurd (cc)
+    go None eo false i q = i eo
 
 -- two tests with the same last row: changed for the one, it is the other's last still, if that accepts the changed row
-pub last-changed : (v w : Row → Bool) (f : Row → Row) (y : Row) (l : List Row) → w (f y) ≡ true → last_of v l ≡ some y → last_of w l ≡ some y
-    → last_of w (change_last v f l) ≡ some (f y)
-last-changed v w f y [] g h k = absurd (let z : ◌≡◌ {A = ℕ} 0 1 = cc in omega arith)
+pub last-changed : (v w : Row → Bool) (f : Row → Row) (y : Row) (l : List Row) → w (f y) ≡ true → last_of v l ≡ Some y → last_of w l ≡ Some y
+    → last_of w (change_last v f l) ≡ Some (f y)
+last-changed v w f y [] g h k = absurd (cc)
 last-changed v w f y (x ∷ xs) g h k =
     go (last_of v xs) refl (last_of w xs) refl (v x) (last-changed v w f y xs g) h k
   where
@@ -127,16 +126,16 @@ last-changed v w f y (x ∷ xs) g h k =
     wy = last-seen w y (x ∷ xs) k
 
     go : (o : Option Row) → last_of v xs ≡ o → (u : Option Row) → last_of w xs ≡ u → (b : Bool)
-        → (last_of v xs ≡ some y → last_of w xs ≡ some y → last_of w (change_last v f xs) ≡ some (f y))
-        → or_else o (when b x) ≡ some y → or_else u (when (w x) x) ≡ some y
-        → last_of w (pick (some_of v xs) (x ∷ change_last v f xs) (pick b (f x ∷ xs) (x ∷ xs))) ≡ some (f y)
-    go (some p) eo (some q) eu b i a c =
+        → (last_of v xs ≡ Some y → last_of w xs ≡ Some y → last_of w (change_last v f xs) ≡ Some (f y))
+        → or_else o (when b x) ≡ Some y → or_else u (when (w x) x) ≡ Some y
+        → last_of w (pick (some_of v xs) (x ∷ change_last v f xs) (pick b (f x ∷ xs) (x ∷ xs))) ≡ Some (f y)
+    go (Some p) eo (Some q) eu b i a c =
         rw (last-there v v y xs vy (eo ∙ a)) (ap (λ o. or_else o (when (w x) x)) (i (eo ∙ a) (eu ∙ c)))
-    go (some p) eo none eu b i a c =
-        absurd (let t : true ≡ false = sym (last-there v w y xs wy (eo ∙ a)) ∙ last_some w xs eu in let z : ◌≡◌ {A = ℕ} 0 1 = cc in omega arith)
-    go none eo (some q) eu b i a c =
-        absurd (let t : true ≡ false = sym (last-there w v y xs vy (eu ∙ c)) ∙ last_some v xs eo in let z : ◌≡◌ {A = ℕ} 0 1 = cc in omega arith)
-    go none eo none eu true i a c =
+    go (Some p) eo None eu b i a c =
+        absurd (let t : true ≡ false = sym (last-there v w y xs wy (eo ∙ a)) ∙ last_some w xs eu in cc)
+    go None eo (Some q) eu b i a c =
+        absurd (let t : true ≡ false = sym (last-there w v y xs vy (eu ∙ c)) ∙ last_some v xs eo in cc)
+    go None eo None eu true i a c =
         let xy : x ≡ y = cc in
         rw (last_some v xs eo, eu, xy, g)
-    go none eo none eu false i a c = absurd (let z : ◌≡◌ {A = ℕ} 0 1 = cc in omega arith)
+    go None eo None eu false i a c = absurd (cc)

@@ -1,5 +1,6 @@
 -- The list of section 8's cases: most are proved where their rules stand, and gathered here; new are vacuum of an empty tree
 -- and the limit of data. Assumes nothing.
+use Rattle.std.proofs.Common.{Ok}
 use mathlib.Core.Path.{◌≡◌, refl, sym, ap}
 use mathlib.Core.Bool.{true, false}
 use mathlib.Core.List.{List}
@@ -11,14 +12,13 @@ use Rattle.page.specs.declared.pool.State.{State}
 use Rattle.mvcc.specs.Snapshot.{lookup, good_statuses, Statuses}
 use Rattle.leaf.specs.Cells.{cells_of}
 use Rattle.leaf_vacuum.specs.Vacuum.{Swept, dropped_rows, changes_rows, vacuumed_leaf}
-use Rattle.tree.specs.Chain.{go, ok, along}
+use Rattle.tree.specs.Chain.{go, along}
 use Rattle.tree.specs.Create.{rooted, created_pool}
 use Rattle.tree.specs.declared.Route.{Route}
 use Rattle.call_answers.specs.Answer.{done, ended}
 use Rattle.call_read.specs.Create.{create_call, has_page}
 use Rattle.call_insert.specs.Insert.{version_ready, insert_version_run, insert_version_call, insert_ready, insert_run, insert_call}
 use Rattle.call_clean.specs.Vacuum.{look_leaf, judged_along, vacuumed_along, vacuum_run, vacuum_call}
-use Rattle.call_clean.specs.declared.vacuum.ChainJudged.{ChainJudged}
 use Rattle.meaning.specs.Cases.{DataLimit, Cases}
 use Rattle.page.proofs.PageLaws.{set_page-page}
 use Rattle.mvcc.proofs.Rules.{rules_hold}
@@ -38,12 +38,12 @@ unfolding vacuumed_leaf dropped_rows changes_rows cells_of
 empty_vacuumed f bound e = rw e.count
 
 module _ (used root : ℕ) (s : List ℕ) (t : Alone used root s) where
-  chain-judged : judged_along s used root ≡ ChainJudged.Ok
+  chain-judged : judged_along s used root ≡ Ok tt
   unfolding judged_along
   chain-judged =
-      let here : look_leaf 0 root (page s root) ≡ go 0 = rw (empty_judged t.empty root) in
-      let all : along s used root look_leaf used 0 ≡ ok 0 =
-      sym (along-end look_leaf used 0 root s t.in_use refl used (omega (arith, t.in_use)) here refl t.empty.next) in
+      let here : look_leaf tt root (page s root) ≡ go tt = rw (empty_judged t.empty root) in
+      let all : along s used root look_leaf used tt ≡ Ok tt =
+      sym (along-end look_leaf used tt root s t.in_use refl used (omega (arith, t.in_use)) here refl t.empty.next) in
       rw all
 
   chain-stays : (f : ℕ → ℕ) (bound : ℕ) → vacuumed_along s used root f bound used 0 ≡ ended 0 s

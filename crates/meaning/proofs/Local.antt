@@ -1,18 +1,16 @@
 -- What a change is told and does lies in the versions of its key: alike there, two lists of rows get the same answer and are
 -- alike after it, and the versions of any other key stay. Assumes nothing.
+use Rattle.std.proofs.Common.{Option, None, Some}
 use mathlib.Core.Path.{◌≡◌, refl, sym, ap, ◌∙◌}
 use mathlib.Core.Bool.{Bool, true, false, ◌&&◌}
 use mathlib.Core.List.{List, [], ◌∷◌, ◌++◌, append-nil}
-use mathlib.Core.Option.{Option, none, some}
 use Prim.Native.Nat.{ℕ}
-use native.Mathlib.Omega.{arith}
 use lib.Dec.{leb, eqb}
 use lib.ListN.{length}
 use borrow.Author.Tests.{ne_eqb, eqb-true, eqb-false}
 use Rattle.store.specs.Pick.{pick}
 use Rattle.mvcc.specs.Snapshot.{lookup, good_statuses, creator_of, Snapshot, Statuses, good_snapshot, plain_snapshot}
 use Rattle.mvcc.specs.Rules.{claim_conflicting}
-use Rattle.mvcc.specs.declared.Current.{Current}
 use Rattle.leaf.specs.Rows.{Row}
 use Rattle.theory_tree.specs.Versions.{of_version, arrivals, best}
 use Rattle.meaning.specs.Change.{Change, inserts, inserts_version, stamps, claims, removes, key_of}
@@ -61,7 +59,7 @@ module _ (v : Row → Bool) (key d : ℕ) (y : Row) where
     where
       go : (a b : Bool) → eqb x.creator y.creator ≡ b → a && b ≡ true → a && eqb x.creator c ≡ false
       go true true e h = ne_eqb x.creator c (λ q. n (sym (eqb-true x.creator y.creator e) ∙ q))
-      go true false e h = absurd (let z : ◌≡◌ {A = ℕ} 0 1 = cc in omega arith)
+      go true false e h = absurd (cc)
       go false b e h = refl
 
   off_key : (j c : ℕ) → (j ≡ key → ⊥) → (x : Row) → of_version key y.creator x ≡ true → of_version j c x ≡ false
@@ -69,7 +67,7 @@ module _ (v : Row → Bool) (key d : ℕ) (y : Row) where
     where
       go : (a : Bool) → eqb x.key key ≡ a → a && eqb x.creator y.creator ≡ true → of_version j c x ≡ false
       go true e h = rw (ne_eqb x.key j (λ q. n (sym q ∙ eqb-true x.key key e)))
-      go false e h = absurd (let z : ◌≡◌ {A = ℕ} 0 1 = cc in omega arith)
+      go false e h = absurd (cc)
 
   -- the versions of another creator stay
   pub stamped-creator : (l : List Row) (c : ℕ) → (y.creator ≡ c → ⊥) → arrivals key c (stamped v key d y l) ≡ arrivals key c l
@@ -89,7 +87,7 @@ module _ (v : Row → Bool) (key d : ℕ) (y : Row) where
 
 -- ---- the five calls
 
-pub insert_alike : (key : ℕ) (body : List ℕ) (cur : Current) (ss : Statuses) (l m : List Row) → SameOf key l m
+pub insert_alike : (key : ℕ) (body : List ℕ) (cur : Option ℕ) (ss : Statuses) (l m : List Row) → SameOf key l m
     → Alike key (meant_insert key cur ss body l) (meant_insert key cur ss body m)
 unfolding meant_insert
 insert_alike key body cur ss l m e =
@@ -103,10 +101,10 @@ insert_alike key body cur ss l m e =
     new = live_row key (creator_of cur) body
 
     go : (o : Option Row) → Alike key (on_best (done_with (arriving new l)) (λ y. refused_as 6 l) o) (on_best (done_with (arriving new m)) (λ y. refused_as 6 m) o)
-    go none = refused_alike key 0 (arriving new l) (arriving new m) (arriving_alike new l m key e)
-    go (some y) = refused_alike key 6 l m e
+    go None = refused_alike key 0 (arriving new l) (arriving new m) (arriving_alike new l m key e)
+    go (Some y) = refused_alike key 6 l m e
 
-pub insert-keeps : (key : ℕ) (body : List ℕ) (cur : Current) (ss : Statuses) (l : List Row) (j : ℕ) → (j ≡ key → ⊥)
+pub insert-keeps : (key : ℕ) (body : List ℕ) (cur : Option ℕ) (ss : Statuses) (l : List Row) (j : ℕ) → (j ≡ key → ⊥)
     → SameOf j (meant_insert key cur ss body l).rows l
 unfolding meant_insert
 insert-keeps key body cur ss l j n =
@@ -114,8 +112,8 @@ insert-keeps key body cur ss l j n =
     (pick-keeps j l (leb (length body) 4051) _ _ (go (best (seen_by (plain_snapshot cur) (lookup ss)) key l)) (λ c. refl)) (λ c. refl)
   where
     go : (o : Option Row) → SameOf j (on_best (done_with (arriving (live_row key (creator_of cur) body) l)) (λ y. refused_as 6 l) o).rows l
-    go none = arriving-keeps (live_row key (creator_of cur) body) l j n
-    go (some y) = λ c. refl
+    go None = arriving-keeps (live_row key (creator_of cur) body) l j n
+    go (Some y) = λ c. refl
 
 pub version_alike : (r : Row) (l m : List Row) → SameOf r.key l m → Alike r.key (meant_version r l) (meant_version r m)
 unfolding meant_version
@@ -142,8 +140,8 @@ module _ (key d : ℕ) (sn : Snapshot) (ss : Statuses) where
       go : (o : Option Row)
           → Alike key (on_best (refused_as 8 l) (λ y. pick (more y) (refused_as 7 l) (done_with (stamped v key d y l))) o)
           (on_best (refused_as 8 m) (λ y. pick (more' y) (refused_as 7 m) (done_with (stamped v key d y m))) o)
-      go none = refused_alike key 8 l m e
-      go (some y) =
+      go None = refused_alike key 8 l m e
+      go (Some y) =
           rw (q y) (pick_alike key (more' y) (refused_alike key 7 l m e)
           (refused_alike key 0 (stamped v key d y l) (stamped v key d y m) (stamped_alike v key d y l m e)))
 
@@ -153,8 +151,8 @@ module _ (key d : ℕ) (sn : Snapshot) (ss : Statuses) where
       pick-keeps j l (good_snapshot sn) _ _ (pick-keeps j l (good_statuses ss) _ _ (go (best v key l)) (λ c. refl)) (λ c. refl)
     where
       go : (o : Option Row) → SameOf j (on_best (refused_as 8 l) (λ y. pick (more y) (refused_as 7 l) (done_with (stamped v key d y l))) o).rows l
-      go none = λ c. refl
-      go (some y) = pick-keeps j l (more y) _ _ (λ c. refl) (stamped-keeps v key d y l j n)
+      go None = λ c. refl
+      go (Some y) = pick-keeps j l (more y) _ _ (λ c. refl) (stamped-keeps v key d y l j n)
 
 module _ (key : ℕ) (sn : Snapshot) (ss : Statuses) where
   pub claim_alike : (l m : List Row) → SameOf key l m → Alike key (meant_claim key sn ss l) (meant_claim key sn ss m)

@@ -1,46 +1,42 @@
 -- The reading calls refuse as demand 1 has it: create, check, lookup, conflict, and the listings, of which none but a Done
 -- one changes the output. Assumes nothing.
+use Rattle.std.proofs.Common.{Option, Some, None, Result, Ok, Err}
 use mathlib.Core.Path.{◌≡◌, refl}
-use mathlib.Core.Bool.{false}
+use mathlib.Core.Bool.{Bool, false}
 use mathlib.Core.List.{List, [], ◌∷◌}
 use Prim.Native.Nat.{ℕ}
-use native.Mathlib.Omega.{arith}
 use lib.Dec.{leb}
 use lib.ListN.{length}
 use Rattle.page.specs.Pool.{good_pool}
 use Rattle.page.specs.declared.pool.State.{State}
+use Rattle.row.specs.declared.Fault.{Fault}
+use Rattle.row.specs.declared.Cell.{Cell}
 use Rattle.leaf.specs.Rows.{Row}
-use Rattle.leaf.specs.declared.find.Best.{Best}
+use Rattle.leaf.specs.Find.{Best}
 use Rattle.mvcc.specs.Lists.{mem, rising, good_active}
 use Rattle.mvcc.specs.Snapshot.{lookup, good_statuses, Snapshot, Statuses, good_snapshot, plain_snapshot, no_statuses}
-use Rattle.mvcc.specs.declared.Current.{Current}
-use Rattle.tree.specs.Chain.{Told, ok, ill}
 use Rattle.tree.specs.Descend.{descend_of, on_leaf}
 use Rattle.tree.specs.Lookup.{best_in_tree, test_in_tree}
 use Rattle.tree.specs.declared.Route.{Route}
-use Rattle.tree.specs.declared.Descent.{Descent}
-use Rattle.tree.specs.declared.ChainBest.{ChainBest}
-use Rattle.tree.specs.declared.ChainTest.{ChainTest}
 use Rattle.list_records.specs.Records.{records}
 use Rattle.list_records.specs.Listed.{fitted}
-use Rattle.call_answers.specs.Answer.{written, Written, refusal_of, hide_list}
-use Rattle.list_records.specs.declared.Listing.{Listing}
 use Rattle.list_versions.specs.Gather.{rows_along}
 use Rattle.list_versions.specs.Listed.{listed_rows, route_of, list_tree}
 use Rattle.list_versions.specs.declared.Which.{Which}
 use Rattle.list_pages.specs.Numbers.{on_told, numbers_of, number_records, numbers_tree}
 use Rattle.list_visible.specs.Visible.{chain_rows, scan_rows, listed_visible, scan_tree}
+use Rattle.call_answers.specs.declared.Refusal.{Refusal}
+use Rattle.call_answers.specs.Answer.{faulty, written, Written, number_of, refusal_of, hide, hide_list}
+use Rattle.call_answers.specs.declared.Refused.{Refused}
 use Rattle.call_read.specs.Create.{has_page, create_call}
-use Rattle.call_read.specs.Find.{looked_best, find_visible_run, hidden, find_visible_call, find_call}
+use Rattle.call_read.specs.Find.{looked_best, find_visible_run, placed, find_visible_call, find_call}
 use Rattle.call_read.specs.Conflict.{test_outcome, conflict_call}
 use Rattle.call_read.specs.Check.{check_call}
-use Rattle.call_read.specs.Listings.{listed_as, list_run, versions_of_call, all_versions_call}
+use Rattle.call_read.specs.Listings.{list_run, versions_of_call, all_versions_call}
 use Rattle.call_read.specs.Numbers.{numbers_run, page_numbers_call}
 use Rattle.call_read.specs.Scan.{scan_run, scan_visible_call}
-use Rattle.call_answers.specs.declared.Looked.{Looked}
-use Rattle.call_answers.specs.declared.CountedAt.{CountedAt}
 use Rattle.meaning.specs.Refusals.{Refuses, KeepsOutput, ReadsRefuse, Keeps}
-use Rattle.meaning.proofs.Refusing.{Known, either, done-refuses, refused-refuses}
+use Rattle.meaning.proofs.Refusing.{Known, AnswerKnown, either, done-refuses, refused-refuses}
 
 -- ---- create and check
 
@@ -60,58 +56,53 @@ module _ (s : List ℕ) (st : State) where
 
 -- ---- lookup
 
--- a version, or one of these numbers
-abbrev pub LookedKnown : List ℕ → Looked → Type 0
-LookedKnown ns (Looked.At p c) = Unit
-LookedKnown ns (Looked.Refused r) = Known ns r.number
-
 module _ (ns : List ℕ) where
-  best-known : Known ns 2 → Known ns 8 → (b : ChainBest) → LookedKnown ns (looked_best b)
-  best-known two eight (ChainBest.Ok (Best.At p c)) = tt
-  best-known two eight (ChainBest.Ok Best.Nothing) = eight
-  best-known two eight (ChainBest.Bad f) = two
+  best-known : Known ns 2 → Known ns 8 → (b : Result Best Fault) → AnswerKnown ns (looked_best b)
+  best-known two eight (Ok (Some (p, c))) = tt
+  best-known two eight (Ok None) = eight
+  best-known two eight (Err f) = two
 
   pub looked_known : (s : List ℕ) (st : State) (key : ℕ) (sn : Snapshot) (ss : Statuses)
       → Known ns 1 → (good_snapshot sn ≡ false → Known ns 3) → Known ns 4 → Known ns 2 → Known ns 8
-      → LookedKnown ns (find_visible_run s st key sn ss)
+      → AnswerKnown ns (find_visible_run s st key sn ss)
   unfolding find_visible_run
   looked_known s st key sn ss one three four two eight =
-      either (LookedKnown ns) (good_pool s st)
+      either (AnswerKnown ns) (good_pool s st)
       (λ e.
-      either (LookedKnown ns) (good_snapshot sn)
+      either (AnswerKnown ns) (good_snapshot sn)
       (λ e.
-      either (LookedKnown ns) (good_statuses ss)
+      either (AnswerKnown ns) (good_statuses ss)
       (λ e. best-known two eight (best_in_tree s st.used st.root key sn (lookup ss)))
       (λ e. four))
       three)
       (λ e. one)
 
-  hidden-refuses : (r : Looked) → LookedKnown ns r → Refuses ns (hidden r)
-  hidden-refuses (Looked.At p c) k = done-refuses ns _
-  hidden-refuses (Looked.Refused r) k = refused-refuses ns r.number k
+  placed-refuses : (r : Result (ℕ × Cell) Refused) → AnswerKnown ns r → Refuses ns (hide (placed r))
+  placed-refuses (Ok (p, c)) k = done-refuses ns _
+  placed-refuses (Err r) k = refused-refuses ns _ k
 
 -- the plain snapshot's list is never refused
 pub plain-active : {A : Type 0} → good_active [] ≡ false → A
 unfolding good_active rising
-plain-active e = absurd (let z : ◌≡◌ {A = ℕ} 0 1 = cc in omega arith)
+plain-active e = absurd (cc)
 
 find-visible-refuses : (s : List ℕ) (st : State) (key : ℕ) (sn : Snapshot) (ss : Statuses)
     → Refuses (1 ∷ 3 ∷ 4 ∷ 2 ∷ 8 ∷ []) (find_visible_call s st key sn ss)
 unfolding find_visible_call mem
 find-visible-refuses s st key sn ss =
-    hidden-refuses _ (find_visible_run s st key sn ss) (looked_known (1 ∷ 3 ∷ 4 ∷ 2 ∷ 8 ∷ []) s st key sn ss refl (λ e. refl) refl refl refl)
+    placed-refuses _ (find_visible_run s st key sn ss) (looked_known (1 ∷ 3 ∷ 4 ∷ 2 ∷ 8 ∷ []) s st key sn ss refl (λ e. refl) refl refl refl)
 
-find-refuses : (s : List ℕ) (st : State) (key : ℕ) (cur : Current) (ss : Statuses) → Refuses (1 ∷ 4 ∷ 2 ∷ 8 ∷ []) (find_call s st key cur ss)
+find-refuses : (s : List ℕ) (st : State) (key : ℕ) (cur : Option ℕ) (ss : Statuses) → Refuses (1 ∷ 4 ∷ 2 ∷ 8 ∷ []) (find_call s st key cur ss)
 unfolding find_call find_visible_call mem
 find-refuses s st key cur ss =
-    hidden-refuses _ (find_visible_run s st key (plain_snapshot cur) ss)
+    placed-refuses _ (find_visible_run s st key (plain_snapshot cur) ss)
     (looked_known (1 ∷ 4 ∷ 2 ∷ 8 ∷ []) s st key (plain_snapshot cur) ss refl plain-active refl refl refl)
 
 -- ---- conflict
 
-told-refuses : (ns : List ℕ) → Known ns 2 → (t : ChainTest) → Refuses ns (test_outcome t)
-told-refuses ns two (ChainTest.Ok b) = done-refuses ns b
-told-refuses ns two (ChainTest.Bad f) = refused-refuses ns 2 two
+told-refuses : (ns : List ℕ) → Known ns 2 → (t : Result Bool Fault) → Refuses ns (test_outcome t)
+told-refuses ns two (Ok b) = done-refuses ns b
+told-refuses ns two (Err f) = refused-refuses ns 2 two
 
 conflict-refuses : (s : List ℕ) (st : State) (key seen : ℕ) (sn : Snapshot) → Refuses (1 ∷ 3 ∷ 2 ∷ []) (conflict_call s st key sn seen)
 unfolding conflict_call mem
@@ -126,104 +117,83 @@ conflict-refuses s st key seen sn =
 -- ---- the listings
 
 -- only a listing that is Done changes the output
-abbrev Leaves : List ℕ → Listing → List ℕ → Type 0
-Leaves out (Listing.Done n) after = Unit
-Leaves out Listing.Short after = after ≡ out
-Leaves out (Listing.Bad f) after = after ≡ out
+module _ (out ns : List ℕ) where
+  abbrev Ends : Written (Result ℕ Refused) → Type 0
+  Ends w = KeepsOutput out ns (hide_list w)
 
-abbrev AsWas : List ℕ → Written Listing → Type 0
-AsWas out w = Leaves out w.answer w.output
+  not_listed : (r : Refused) → Known ns (number_of r.refusal) → Ends (written (Err r) out)
+  not_listed r k = record { refuses = refused-refuses ns _ k; stays = λ h. refl }
 
-module _ (out : List ℕ) where
-  fitted_leaves : (x : List ℕ) → AsWas out (fitted x out)
-  unfolding fitted
-  fitted_leaves x = either (AsWas out) (leb (length x) (length out)) (λ e. tt) (λ e. refl)
+  module _ (two : Known ns 2) (twelve : Known ns 12) where
+    fitted_ends : (x : List ℕ) → Ends (fitted x out)
+    unfolding fitted
+    fitted_ends x =
+        either Ends (leb (length x) (length out)) (λ e. record { refuses = done-refuses ns _; stays = λ h. absurd (h refl) })
+        (λ e. not_listed (refusal_of Refusal.Short) twelve)
 
-  list_leaves : (w : Which) (used root : ℕ) (s : List ℕ) → AsWas out (list_tree s used root w out)
-  unfolding list_tree
-  list_leaves w used root s = by_way (descend_of s used root (route_of w) 3)
-    where
-      by_rows : (t : Told (List Row)) → AsWas out (listed_rows t out)
-      by_rows (ok rs) = fitted_leaves (records rs)
-      by_rows (ill f) = refl
-
-      by_way : (d : Descent) → AsWas out (on_leaf (λ p. listed_rows (rows_along s used p w) out) (λ f. written (Listing.Bad f) out) d)
-      by_way (Descent.Leaf p) = by_rows (rows_along s used p w)
-      by_way (Descent.Bad f) = refl
-
-  numbers_leaves : (used root : ℕ) (s : List ℕ) → AsWas out (numbers_tree s used root out)
-  unfolding numbers_tree
-  numbers_leaves used root s = by_told (numbers_of s used root)
-    where
-      by_told : (t : Told (List ℕ)) → AsWas out (on_told (λ l. fitted (number_records l) out) (λ f. written (Listing.Bad f) out) t)
-      by_told (ok l) = fitted_leaves (number_records l)
-      by_told (ill f) = refl
-
-  scan_leaves : (sn : Snapshot) (st : ℕ → ℕ) (used root : ℕ) (s : List ℕ) → AsWas out (scan_tree s used root sn st out)
-  unfolding scan_tree
-  scan_leaves sn st used root s = by_way (descend_of s used root Route.First 3)
-    where
-      by_rows : (t : Told (List Row)) → AsWas out (listed_visible sn st out t)
-      by_rows (ok rs) = fitted_leaves (records (scan_rows sn st rs))
-      by_rows (ill f) = refl
-
-      by_way : (d : Descent) → AsWas out (on_leaf (λ p. listed_visible sn st out (chain_rows s used p)) (λ f. written (Listing.Bad f) out) d)
-      by_way (Descent.Leaf p) = by_rows (chain_rows s used p)
-      by_way (Descent.Bad f) = refl
-
-  module _ (ns : List ℕ) where
-    abbrev Ends : Written CountedAt → Type 0
-    Ends w = KeepsOutput out ns (hide_list w)
-
-    not_listed : (n : ℕ) → Known ns n → Ends (written (CountedAt.Refused (refusal_of n)) out)
-    not_listed n k = record { refuses = refused-refuses ns n k; stays = λ h. refl }
-
-    listed_ends : Known ns 2 → Known ns 12 → (w : Written Listing) → AsWas out w → Ends (listed_as w)
-    listed_ends two twelve w h = by_listing w.answer w.output h
+    list_ends : (w : Which) (used root : ℕ) (s : List ℕ) → Ends (list_tree s used root w out)
+    unfolding list_tree
+    list_ends w used root s = by_way (descend_of s used root (route_of w) 3)
       where
-        by_listing : (l : Listing) (after : List ℕ) → Leaves out l after → Ends (listed_as (written l after))
-        by_listing (Listing.Done n) after k = record { refuses = done-refuses ns n; stays = λ h. absurd (h refl) }
-        by_listing Listing.Short after k = record { refuses = refused-refuses ns 12 twelve; stays = λ h. k }
-        by_listing (Listing.Bad f) after k = record { refuses = refused-refuses ns 2 two; stays = λ h. k }
+        by_rows : (t : Result (List Row) Fault) → Ends (listed_rows t out)
+        by_rows (Ok rs) = fitted_ends (records rs)
+        by_rows (Err f) = not_listed (faulty f) two
 
-  module _ (s : List ℕ) (st : State) where
-    list_keeps : (w : Which) → KeepsOutput out (1 ∷ 2 ∷ 12 ∷ []) (hide_list (list_run s st w out))
-    unfolding list_run mem
-    list_keeps w =
-        either (Ends _) (good_pool s st)
-        (λ e. listed_ends _ refl refl (list_tree s st.used st.root w out) (list_leaves w st.used st.root s))
-        (λ e. not_listed _ 1 refl)
+        by_way : (d : Result ℕ Fault) → Ends (on_leaf (λ p. listed_rows (rows_along s used p w) out) (λ f. written (Err (faulty f)) out) d)
+        by_way (Ok p) = by_rows (rows_along s used p w)
+        by_way (Err f) = not_listed (faulty f) two
 
-    versions-keeps : (key : ℕ) → KeepsOutput out (1 ∷ 2 ∷ 12 ∷ []) (versions_of_call s st key out)
-    unfolding versions_of_call
-    versions-keeps key = list_keeps (Which.Key key)
+    numbers_ends : (used root : ℕ) (s : List ℕ) → Ends (numbers_tree s used root out)
+    unfolding numbers_tree
+    numbers_ends used root s = by_told (numbers_of s used root)
+      where
+        by_told : (t : Result (List ℕ) Fault) → Ends (on_told (λ l. fitted (number_records l) out) (λ f. written (Err (faulty f)) out) t)
+        by_told (Ok l) = fitted_ends (number_records l)
+        by_told (Err f) = not_listed (faulty f) two
 
-    all_keeps : KeepsOutput out (1 ∷ 2 ∷ 12 ∷ []) (all_versions_call s st out)
-    unfolding all_versions_call
-    all_keeps = list_keeps Which.All
+    scan_ends : (sn : Snapshot) (st : ℕ → ℕ) (used root : ℕ) (s : List ℕ) → Ends (scan_tree s used root sn st out)
+    unfolding scan_tree
+    scan_ends sn st used root s = by_way (descend_of s used root Route.First 3)
+      where
+        by_rows : (t : Result (List Row) Fault) → Ends (listed_visible sn st out t)
+        by_rows (Ok rs) = fitted_ends (records (scan_rows sn st rs))
+        by_rows (Err f) = not_listed (faulty f) two
 
-    numbers_keeps : KeepsOutput out (1 ∷ 2 ∷ 12 ∷ []) (page_numbers_call s st out)
-    unfolding page_numbers_call numbers_run mem
-    numbers_keeps =
-        either (Ends _) (good_pool s st)
-        (λ e. listed_ends _ refl refl (numbers_tree s st.used st.root out) (numbers_leaves st.used st.root s))
-        (λ e. not_listed _ 1 refl)
+        by_way : (d : Result ℕ Fault) → Ends (on_leaf (λ p. listed_visible sn st out (chain_rows s used p)) (λ f. written (Err (faulty f)) out) d)
+        by_way (Ok p) = by_rows (chain_rows s used p)
+        by_way (Err f) = not_listed (faulty f) two
 
-    scan-keeps : (sn : Snapshot) (ss : Statuses)
-        → KeepsOutput out (1 ∷ 3 ∷ 4 ∷ 2 ∷ 12 ∷ []) (scan_visible_call s st sn ss out)
-    unfolding scan_visible_call scan_run mem
-    scan-keeps sn ss =
-        either (Ends _) (good_pool s st)
-        (λ e.
-        either (Ends _) (good_snapshot sn)
-        (λ e.
-        either (Ends _) (good_statuses ss)
-        (λ e.
-        listed_ends _ refl refl (scan_tree s st.used st.root sn (lookup ss) out)
-        (scan_leaves sn (lookup ss) st.used st.root s))
-        (λ e. not_listed _ 4 refl))
-        (λ e. not_listed _ 3 refl))
-        (λ e. not_listed _ 1 refl)
+module _ (out s : List ℕ) (st : State) where
+  list_keeps : (w : Which) → KeepsOutput out (1 ∷ 2 ∷ 12 ∷ []) (hide_list (list_run s st w out))
+  unfolding list_run mem
+  list_keeps w =
+      either (Ends out _) (good_pool s st) (λ e. list_ends out _ refl refl w st.used st.root s) (λ e. not_listed out _ (refusal_of Refusal.BadPool) refl)
+
+  versions-keeps : (key : ℕ) → KeepsOutput out (1 ∷ 2 ∷ 12 ∷ []) (versions_of_call s st key out)
+  unfolding versions_of_call
+  versions-keeps key = list_keeps (Which.Key key)
+
+  all_keeps : KeepsOutput out (1 ∷ 2 ∷ 12 ∷ []) (all_versions_call s st out)
+  unfolding all_versions_call
+  all_keeps = list_keeps Which.All
+
+  numbers_keeps : KeepsOutput out (1 ∷ 2 ∷ 12 ∷ []) (page_numbers_call s st out)
+  unfolding page_numbers_call numbers_run mem
+  numbers_keeps =
+      either (Ends out _) (good_pool s st) (λ e. numbers_ends out _ refl refl st.used st.root s) (λ e. not_listed out _ (refusal_of Refusal.BadPool) refl)
+
+  scan-keeps : (sn : Snapshot) (ss : Statuses)
+      → KeepsOutput out (1 ∷ 3 ∷ 4 ∷ 2 ∷ 12 ∷ []) (scan_visible_call s st sn ss out)
+  unfolding scan_visible_call scan_run mem
+  scan-keeps sn ss =
+      either (Ends out _) (good_pool s st)
+      (λ e.
+      either (Ends out _) (good_snapshot sn)
+      (λ e.
+      either (Ends out _) (good_statuses ss) (λ e. scan_ends out _ refl refl sn (lookup ss) st.used st.root s)
+      (λ e. not_listed out _ (refusal_of Refusal.BadStatuses) refl))
+      (λ e. not_listed out _ (refusal_of Refusal.BadSnapshot) refl))
+      (λ e. not_listed out _ (refusal_of Refusal.BadPool) refl)
 
 pub reads_refuse : ReadsRefuse
 reads_refuse =

@@ -1,5 +1,6 @@
 -- A stamp is never Undividable: the leaf of what a lookup found was full to 4084 bytes at most, and the stamped cell, as long
 -- as it may be, still fits a page alone. Assumes nothing.
+use Rattle.std.proofs.Common.{Ok}
 use mathlib.Core.Path.{◌≡◌, sym, ap, ◌∙◌}
 use mathlib.Core.Bool.{true}
 use mathlib.Core.List.{List, [], ◌∷◌}
@@ -15,6 +16,7 @@ use Rattle.row.specs.Write.{stamp_len}
 use Rattle.row.specs.declared.Cell.{Cell}
 use Rattle.leaf.specs.Place.{sizes_of, cut_fits}
 use Rattle.leaf.specs.CutFacts.{Between}
+use Rattle.tree_room.specs.declared.Planned.{Planned}
 use Rattle.tree_stamp.specs.Target.{target_of}
 use Rattle.tree_stamp.specs.Steps.Target.{CellMet}
 use Rattle.tree_stamp.specs.Stamp.{bytes_stamped, cut_stamped, stamp_plan}
@@ -25,7 +27,6 @@ use Rattle.row.proofs.Writing.{pointer_len_lem}
 use Rattle.leaf.proofs.CutFacts.{stamp_divides, between_append}
 use Rattle.leaf.proofs.Chain.{Chain}
 use Rattle.leaf.proofs.Bytes.{bytes-page}
-use Rattle.tree_room.proofs.Telling.{plan_told}
 use Rattle.tree_room.proofs.Keeping.{planned-is}
 use Rattle.tree_stamp.proofs.Meeting.{Stands, target_stands}
 use Rattle.tree_stamp.proofs.Cutting.{m, xs, ys, all, live, whole_sum, cut_is}
@@ -61,12 +62,12 @@ module _ (t : Target) (pg : List ℕ) (B : AreBytes pg) (short : length pg ≤ 4
 -- so its plan has a cut that fits
 module _ (s : List ℕ) (st : State) (B : AreBytes s) (t : Target) (met : CellMet st.used t.leaf t.cell s)
     (is : t ≡ target_of (page s t.leaf) t.leaf t.cell) where
-  pub plan_cuts : (stamp_plan s st t).ok ≡ true → (stamp_plan s st t).plan.over ≡ true → cut_fits (bytes_stamped t) (stamp_plan s st t).plan.cut ≡ true
+  pub plan_cuts : {plan : Planned} → stamp_plan s st t ≡ Ok plan → plan.over ≡ true → cut_fits (bytes_stamped t) plan.cut ≡ true
   unfolding stamp_plan
   plan_cuts e o =
       let pg = page s t.leaf in
       let b = ltb 4084 (bytes_stamped t) in
-      let p = planned-is st t.leaf b (cut_stamped pg t) s (plan_told st t.leaf b (cut_stamped pg t) s e) in
+      let p = planned-is st t.leaf b (cut_stamped pg t) s e in
       let more : b ≡ true = sym p.same ∙ o in
       rw (p.at_cut more)
       (stamp_cuts t pg (bytes-page t.leaf s B) (page_short t.leaf s) (target_stands st.used s t met is) (ltb-true 4084 (bytes_stamped t) more))

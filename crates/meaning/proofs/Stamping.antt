@@ -1,5 +1,6 @@
 -- The chosen version stamped in a well-formed tree, in place or with its leaf divided: the tree stays well-formed, and its chain
 -- is the old one with that row stamped. Assumes nothing.
+use Rattle.std.proofs.Common.{Ok, Some}
 use mathlib.Core.Path.{◌≡◌, refl, sym, ap, ◌∙◌, subst}
 use mathlib.Core.Bool.{Bool, true, false, ◌&&◌, ◌||◌}
 use mathlib.Core.List.{List, [], ◌∷◌, ◌++◌, append_assoc, map, map-append}
@@ -15,7 +16,6 @@ use Rattle.page.specs.Header.{cell_count}
 use Rattle.page.specs.declared.pool.State.{State}
 use Rattle.row.specs.Write.{cell_bytes}
 use Rattle.row.specs.declared.Cell.{Cell}
-use Rattle.row.specs.declared.Stamp.{Stamp}
 use Rattle.leaf.specs.Rows.{Row, row_of, rows_bytes}
 use Rattle.leaf.specs.RowFacts.{Sound}
 use Rattle.leaf.specs.declared.place.Cut.{Cut}
@@ -144,8 +144,8 @@ module _ (g : Grown) (t : Shape) (tree : TreeIn g t) (v : Row → Bool) (key p :
       let B = bytes-page p s tree.bytes in
       let body = part c.version.start c.version.len pg in
       subst AreBytes spliced-is
-      (bytes-spliced c.at c.next target.beside.end (cell_bytes c.key c.version.creator (Stamp.By d) c.version.pointer body) pg
-      (bytes-cell c.key c.version.creator (Stamp.By d) c.version.pointer body (bytes-part c.version.start c.version.len pg B)) B)
+      (bytes-spliced c.at c.next target.beside.end (cell_bytes c.key c.version.creator (Some d) c.version.pointer body) pg
+      (bytes-cell c.key c.version.creator (Some d) c.version.pointer body (bytes-part c.version.start c.version.len pg B)) B)
 
   abbrev cut : Cut
   cut = cut_stamped pg target
@@ -153,7 +153,7 @@ module _ (g : Grown) (t : Shape) (tree : TreeIn g t) (v : Row → Bool) (key p :
   abbrev chained : List Row
   chained = pre_c ctx ++ (new ++ post_c ctx)
 
-  by_over : (over : Bool) → ltb 4084 (bytes_stamped target) ≡ over → room_of (length s / 4096) st (bytes_stamped target) (plan_above ctx p over cut s) ≡ 0
+  by_over : (over : Bool) → ltb 4084 (bytes_stamped target) ≡ over → room_of (length s / 4096) st (bytes_stamped target) (plan_above ctx p over cut s) ≡ Ok tt
       → Holding chained (stamped_at d target (plan_above ctx p over cut s) g)
   unfolding stamped_at
   by_over true o room =
@@ -181,6 +181,6 @@ module _ (g : Grown) (t : Shape) (tree : TreeIn g t) (v : Row → Bool) (key p :
       ∙ change_split w (stamp_row d) (pre_c ctx ++ front) row (back ++ post_c ctx) own none in
       rw there (simp append_assoc)
 
-  pub stamps_it : stamp_room g t tree v key p c here ≡ 0
+  pub stamps_it : stamp_room g t tree v key p c here ≡ Ok tt
       → Holding (stamped v key d row (chain t)) (stamped_at d (target_for g t tree v key p c here) (stamp_planned g t tree v key p c here) g)
   stamps_it room = let h = by_over (ltb 4084 (bytes_stamped target)) refl room in record { shape = h.shape; tree = h.tree; chain-is = h.chain-is ∙ chain-new }

@@ -1,4 +1,5 @@
 -- What the reading calls say of a well-formed tree: its versions and its page numbers. Assumes nothing.
+use Rattle.std.proofs.Common.{Some, None, Ok}
 use mathlib.Core.Path.{◌≡◌, refl, sym, ap, ◌∙◌}
 use mathlib.Core.Bool.{Bool, true, false, ◌&&◌}
 use mathlib.Core.List.{List, [], ◌++◌, append-nil, append_assoc}
@@ -8,10 +9,8 @@ use Rattle.mvcc.specs.Snapshot.{lookup, good_statuses, Snapshot, Statuses, good_
 use Rattle.mvcc.specs.Rules.{conflicting}
 use Rattle.leaf.specs.Cells.{judge_leaf}
 use Rattle.leaf.specs.Rows.{Row, rows, only, of_key}
-use Rattle.leaf.specs.declared.Judged.{Judged}
-use Rattle.leaf.specs.declared.find.Best.{Best}
-use Rattle.tree.specs.Chain.{Seen, stop, go, ok, along}
-use Rattle.tree.specs.declared.ChainBest.{ChainBest}
+use Rattle.leaf.specs.Find.{Best}
+use Rattle.tree.specs.Chain.{Seen, stop, go, along}
 use Rattle.page.specs.Pool.{Grown}
 use Rattle.list_records.specs.Records.{records}
 use Rattle.list_versions.specs.Gather.{look_rows, rows_along}
@@ -20,8 +19,8 @@ use Rattle.list_versions.specs.Listed.{list_tree}
 use Rattle.list_versions.specs.declared.Which.{Which}
 use Rattle.list_pages.specs.Numbers.{number_records, numbers_tree}
 use Rattle.list_visible.specs.Visible.{look_all, chain_rows, scan_rows, scan_tree}
-use Rattle.call_answers.specs.Answer.{done}
-use Rattle.call_read.specs.Find.{looked_best, hidden, find_visible_call}
+use Rattle.call_answers.specs.Answer.{done, hide}
+use Rattle.call_read.specs.Find.{looked_best, placed, find_visible_call}
 use Rattle.call_read.specs.Conflict.{conflict_call}
 use Rattle.call_read.specs.Listings.{list_run, versions_of_call, all_versions_call}
 use Rattle.call_read.specs.Numbers.{numbers_run, page_numbers_call}
@@ -46,28 +45,28 @@ use Rattle.meaning.proofs.Visiting.{numbers_are}
 
 -- ---- lookup
 
-looked_number : (s : List ℕ) (b : Best) → (hidden (looked_best (ChainBest.Ok b))).number ≡ on_best 8 (λ y. 0) (row_in s b)
-looked_number s (Best.At p c) = refl
-looked_number s Best.Nothing = refl
+looked_number : (s : List ℕ) (b : Best) → (hide (placed (looked_best (Ok b)))).number ≡ on_best 8 (λ y. 0) (row_in s b)
+looked_number s (Some (p, c)) = refl
+looked_number s None = refl
 
 -- ---- the rows that a listing gathers
 
 module _ (s : List ℕ) (root used : ℕ) (t : Shape) (f : WellFormed (view s) root used t) where
-  key-rows : (key : ℕ) → rows_along s used (leaf_of key t) (Which.Key key) ≡ ok (only (of_key key) (chain t))
+  key-rows : (key : ℕ) → rows_along s used (leaf_of key t) (Which.Key key) ≡ Ok (only (of_key key) (chain t))
   unfolding rows_along
   key-rows key =
       walk-key (look_rows (Which.Key key)) key step says skips s root used t f []
-      ∙ ap (λ (rs : List Row). ok rs)
+      ∙ ap (λ (rs : List Row). Ok rs)
       (gather_chain step s used (λ a rs. a ++ only (of_key key) rs) (λ a p pg e j. refl) append-nil joins t (at_leaves s root used t f (locs t top) (locs_plug t top)) [])
     where
       step : List Row → ℕ → List ℕ → List Row
       step a p pg = a ++ only (of_key key) (rows pg)
 
-      says : (a : List Row) (p : ℕ) (pg : List ℕ) (e : ℕ) → judge_leaf pg p ≡ Judged.Ok e
+      says : (a : List Row) (p : ℕ) (pg : List ℕ) (e : ℕ) → judge_leaf pg p ≡ Ok e
           → look_rows (Which.Key key) a p pg ≡ pick (larger key (rows pg)) (stop (step a p pg)) (go (step a p pg))
       says a p pg e j = rw (j, larger_is key pg)
 
-      skips : (a : List Row) (p : ℕ) (pg : List ℕ) (e : ℕ) → judge_leaf pg p ≡ Judged.Ok e → All (λ (r : Row). of_key key r ≡ false) (rows pg) → step a p pg ≡ a
+      skips : (a : List Row) (p : ℕ) (pg : List ℕ) (e : ℕ) → judge_leaf pg p ≡ Ok e → All (λ (r : Row). of_key key r ≡ false) (rows pg) → step a p pg ≡ a
       skips a p pg e j o = ap (λ (l : List Row). a ++ l) (filt_none (of_key key) (rows pg) o) ∙ append-nil a
 
       joins : (a xs ys : List Row) → a ++ only (of_key key) (xs ++ ys) ≡ (a ++ only (of_key key) xs) ++ only (of_key key) ys
@@ -75,19 +74,19 @@ module _ (s : List ℕ) (root used : ℕ) (t : Shape) (f : WellFormed (view s) r
 
   -- every look that takes all of a leaf's rows
   whole : (look : List Row → ℕ → List ℕ → Seen (List Row))
-      → ((a : List Row) (p : ℕ) (pg : List ℕ) (e : ℕ) → judge_leaf pg p ≡ Judged.Ok e → look a p pg ≡ go (a ++ rows pg))
-      → along s used (first t) look used [] ≡ ok (chain t)
+      → ((a : List Row) (p : ℕ) (pg : List ℕ) (e : ℕ) → judge_leaf pg p ≡ Ok e → look a p pg ≡ go (a ++ rows pg))
+      → along s used (first t) look used [] ≡ Ok (chain t)
   whole look says =
       walk_all look (λ a p pg. a ++ rows pg) says s root used t f []
-      ∙ ap (λ (rs : List Row). ok rs)
+      ∙ ap (λ (rs : List Row). Ok rs)
       (gather_chain (λ a p pg. a ++ rows pg) s used (λ a rs. a ++ rs) (λ a p pg e j. refl) append-nil (λ a xs ys. sym (append_assoc a xs ys))
       t (at_leaves s root used t f (locs t top) (locs_plug t top)) [])
 
-  all_rows : rows_along s used (first t) Which.All ≡ ok (chain t)
+  all_rows : rows_along s used (first t) Which.All ≡ Ok (chain t)
   unfolding rows_along
   all_rows = whole (look_rows Which.All) (λ a p pg e j. rw j)
 
-  chain-rows : chain_rows s used (first t) ≡ ok (chain t)
+  chain-rows : chain_rows s used (first t) ≡ Ok (chain t)
   unfolding chain_rows
   chain-rows = whole look_all (λ a p pg e j. rw j)
 

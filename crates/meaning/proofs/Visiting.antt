@@ -1,5 +1,6 @@
 -- The walk over the page numbers of a tree meets no fault and skips no page: it lists each once, a page before its children's
 -- subtrees, the last child first. Assumes nothing.
+use Rattle.std.proofs.Common.{Some, Ok, Result, Err}
 use mathlib.Core.Path.{◌≡◌, refl, sym, ap, ◌∙◌}
 use mathlib.Core.List.{List, [], ◌∷◌, ◌++◌, append_assoc}
 use Prim.Native.Nat.{ℕ, zero, suc, ◌+◌, ◌≤◌, ◌<◌}
@@ -8,11 +9,10 @@ use native.Mathlib.Nat.{zero-add}
 use lib.ListN.{length}
 use Rattle.page.specs.Page.{page}
 use Rattle.page.specs.Header.{node_type}
+use Rattle.row.specs.declared.Fault.{Fault}
 use Rattle.mvcc.specs.Lists.{mem}
 use Rattle.inner.specs.Inner.{child_at, children_from}
-use Rattle.tree.specs.Chain.{Told, ok, ill}
 use Rattle.list_pages.specs.Numbers.{top_at, on_told, visit_kids, visiting, numbers_of}
-use Rattle.list_pages.specs.declared.Top.{Top}
 use Rattle.theory_tree.specs.View.{view}
 use Rattle.theory_tree.specs.Shape.{Shape, leaf, node, pair, pages_in, head, rest, first, Holds, Deep, All, NoneTwice, Bounded, IsTree, WellFormed}
 use Rattle.meaning.specs.Reads.{numbers_in}
@@ -42,25 +42,25 @@ apart-run l g (q ∷ ps) h o =
 
 -- ---- the pages of a run, the last first
 
-abbrev visit_all : {L : Type 0} → (L → ℕ → Told L) → List ℕ → L → Told L
-visit_all f [] l = ok l
-visit_all f (c ∷ cs) l = on_told (λ m. f m c) (λ e. ill e) (visit_all f cs l)
+abbrev visit_all : {L : Type 0} → (L → ℕ → Result L Fault) → List ℕ → L → Result L Fault
+visit_all f [] l = Ok l
+visit_all f (c ∷ cs) l = on_told (λ m. f m c) (λ e. Err e) (visit_all f cs l)
 
-module _ {L : Type 0} (f : L → ℕ → Told L) where
-  visit-append : (xs ys : List ℕ) (l : L) → visit_all f (xs ++ ys) l ≡ on_told (λ m. visit_all f xs m) (λ e. ill e) (visit_all f ys l)
+module _ {L : Type 0} (f : L → ℕ → Result L Fault) where
+  visit-append : (xs ys : List ℕ) (l : L) → visit_all f (xs ++ ys) l ≡ on_told (λ m. visit_all f xs m) (λ e. Err e) (visit_all f ys l)
   visit-append [] ys l = by_told (visit_all f ys l)
     where
-      by_told : (t : Told L) → t ≡ on_told (λ m. ok m) (λ e. ill e) t
-      by_told (ok m) = refl
-      by_told (ill e) = refl
-  visit-append (x ∷ xs) ys l = ap (on_told (λ m. f m x) (λ e. ill e)) (visit-append xs ys l) ∙ by_told (visit_all f ys l)
+      by_told : (t : Result L Fault) → t ≡ on_told (λ m. Ok m) (λ e. Err e) t
+      by_told (Ok m) = refl
+      by_told (Err e) = refl
+  visit-append (x ∷ xs) ys l = ap (on_told (λ m. f m x) (λ e. Err e)) (visit-append xs ys l) ∙ by_told (visit_all f ys l)
     where
-      by_told : (t : Told L)
-          → on_told (λ m. f m x) (λ e. ill e) (on_told (λ m. visit_all f xs m) (λ e. ill e) t) ≡ on_told (λ m. visit_all f (x ∷ xs) m) (λ e. ill e) t
-      by_told (ok m) = refl
-      by_told (ill e) = refl
+      by_told : (t : Result L Fault)
+          → on_told (λ m. f m x) (λ e. Err e) (on_told (λ m. visit_all f xs m) (λ e. Err e) t) ≡ on_told (λ m. visit_all f (x ∷ xs) m) (λ e. Err e) t
+      by_told (Ok m) = refl
+      by_told (Err e) = refl
 
-kids_all : {L : Type 0} (f : L → ℕ → Told L) (j : ℕ) (pg : List ℕ) (l : L) → visit_kids pg f j l ≡ visit_all f (children_from pg 0 j) l
+kids_all : {L : Type 0} (f : L → ℕ → Result L Fault) (j : ℕ) (pg : List ℕ) (l : L) → visit_kids pg f j l ≡ visit_all f (children_from pg 0 j) l
 unfolding visit_kids children_from
 kids_all f zero pg l = refl
 kids_all {L} f (suc j) pg l =
@@ -69,24 +69,24 @@ kids_all {L} f (suc j) pg l =
     last : children_from pg 0 (suc j) ≡ children_from pg 0 j ++ (child_at pg j ∷ [])
     last = rw (zero-add j) at (children-last pg j 0)
 
-    by_told : (t : Told L) → ((m : L) → visit_kids pg f j m ≡ visit_all f (children_from pg 0 j) m)
-        → on_told (λ m. visit_kids pg f j m) (λ e. ill e) t ≡ on_told (λ m. visit_all f (children_from pg 0 j) m) (λ e. ill e) t
-    by_told (ok m) ih = ih m
-    by_told (ill e) ih = refl
+    by_told : (t : Result L Fault) → ((m : L) → visit_kids pg f j m ≡ visit_all f (children_from pg 0 j) m)
+        → on_told (λ m. visit_kids pg f j m) (λ e. Err e) t ≡ on_told (λ m. visit_all f (children_from pg 0 j) m) (λ e. Err e) t
+    by_told (Ok m) ih = ih m
+    by_told (Err e) ih = refl
 
 -- ---- the walk
 
-abbrev walking : (k used : ℕ) → List ℕ → List ℕ → List ℕ → ℕ → Told (List ℕ)
+abbrev walking : (k used : ℕ) → List ℕ → List ℕ → List ℕ → ℕ → Result (List ℕ) Fault
 walking k used s up l p = visiting s used (λ l p. mem p l) (λ p l. l ++ (p ∷ [])) k up l p
 
 module _ (s : List ℕ) (used : ℕ) where
   -- a leaf, and an internal page with m children
-  visit-leaf : (k : ℕ) (up l : List ℕ) (p : ℕ) → top_at s used k up (mem p l) p ≡ Top.Page 0 → walking k used s up l p ≡ ok (l ++ (p ∷ []))
+  visit-leaf : (k : ℕ) (up l : List ℕ) (p : ℕ) → top_at s used k up (mem p l) p ≡ Ok (Some 0) → walking k used s up l p ≡ Ok (l ++ (p ∷ []))
   unfolding visiting visit_kids
   visit-leaf zero up l p e = rw e
   visit-leaf (suc k) up l p e = rw e
 
-  visit_inner : (k : ℕ) (up l : List ℕ) (p m : ℕ) → top_at s used (suc k) up (mem p l) p ≡ Top.Page m
+  visit_inner : (k : ℕ) (up l : List ℕ) (p m : ℕ) → top_at s used (suc k) up (mem p l) p ≡ Ok (Some m)
       → walking (suc k) used s up l p ≡ visit_all (walking k used s (up ++ (p ∷ []))) (children_from (page s p) 0 m) (l ++ (p ∷ []))
   unfolding visiting
   visit_inner k up l p m e = rw e (kids_all (walking k used s (up ++ (p ∷ []))) m (page s p) (l ++ (p ∷ [])))
@@ -94,7 +94,7 @@ module _ (s : List ℕ) (used : ℕ) where
   -- of a run that stands apart from the pages above it and from those listed
   visit-run : (n k par nxt lo hi : ℕ) (up l : List ℕ) (g : Shape) → Holds (view s) par nxt g → Deep n g → Bounded lo hi g → All (λ p. p < used) (pages_in g)
       → NoneTwice (pages_in g) → All (λ p. Out p up) (pages_in g) → All (λ p. Out p l) (pages_in g) → n ≤ k
-      → visit_all (walking k used s up) (roots g) l ≡ ok (l ++ numbers_in g)
+      → visit_all (walking k used s up) (roots g) l ≡ Ok (l ++ numbers_in g)
   visit-run n k par nxt lo hi up l (leaf p rs) h d b u z au al i =
       visit-leaf k up l p
       (sym (top_leaf k used s up (mem p l) p u.0 refl (out-mem p up au.0) refl (out-mem p l al.0) refl refl (leaf_at s p par nxt rs h).type))
@@ -107,27 +107,27 @@ module _ (s : List ℕ) (used : ℕ) where
       let c : children_from (page s p) 0 (length (rest f) + 1) ≡ roots f =
       rw (count_of s p par h.0 (head f) (rest f) v) at (children_of_lem s p par h.0 (head f) (rest f) v) ∙ sym (roots_is f) in
       let other : node_type (page s p) ≡ 1 → ⊥ = λ t. let q : ◌≡◌ {A = ℕ} 0 1 = sym a.type ∙ t in omega arith in
-      let to : top_at s used (suc k) up (mem p l) p ≡ Top.Page (length (rest f) + 1) =
+      let to : top_at s used (suc k) up (mem p l) p ≡ Ok (Some (length (rest f) + 1)) =
       sym (top_inner (suc k) used s up (mem p l) p u.0 refl (out-mem p up au.0) refl (out-mem p l al.0) refl refl other (λ q. omega arith) refl j) in
       visit_inner k up l p (length (rest f) + 1) to
       ∙ (ap (λ (cs : List ℕ). visit_all (walking k used s (up ++ (p ∷ []))) cs (l ++ (p ∷ []))) c
       ∙ (visit-run d.0 k p nxt lo hi (up ++ (p ∷ [])) (l ++ (p ∷ [])) f h.2 d.2 b u.1 z.1
       (apart-one p up (pages_in f) z.0 au.1) (apart-one p l (pages_in f) z.0 al.1) (omega arith)
-      ∙ ap (λ (m : List ℕ). ok m) (append_assoc l (p ∷ []) (numbers_in f))))
+      ∙ ap (λ (m : List ℕ). Ok m) (append_assoc l (p ∷ []) (numbers_in f))))
   visit-run n k par nxt lo hi up l (pair a m g) h d b u z au al i =
       let au₂ = all_left (λ p. Out p up) (pages_in a) (pages_in g) au in
       let al₂ = all_left (λ p. Out p l) (pages_in a) (pages_in g) al in
       visit-append (walking k used s up) (roots a) (roots g) l
-      ∙ (ap (on_told (λ m. visit_all (walking k used s up) (roots a) m) (λ e. ill e))
+      ∙ (ap (on_told (λ m. visit_all (walking k used s up) (roots a) m) (λ e. Err e))
       (visit-run n k par nxt m hi up l g h.1 d.1 b.1 (all_right (λ p. p < used) (pages_in a) (pages_in g) u) (nd_right (pages_in a) (pages_in g) z)
       (all_right (λ p. Out p up) (pages_in a) (pages_in g) au) (all_right (λ p. Out p l) (pages_in a) (pages_in g) al) i)
       ∙ (visit-run n k par (first g) lo m up (l ++ numbers_in g) a h.0 d.0 b.0
       (all_left (λ p. p < used) (pages_in a) (pages_in g) u) (nd_left (pages_in a) (pages_in g) z) au₂ (apart-run l g (pages_in a) al₂ (nd_apart (pages_in a) (pages_in g) z)) i
-      ∙ ap (λ (m : List ℕ). ok m) (append_assoc l (numbers_in g) (numbers_in a))))
+      ∙ ap (λ (m : List ℕ). Ok m) (append_assoc l (numbers_in g) (numbers_in a))))
 
 -- ---- the tree
 
-pub numbers_are : (s : List ℕ) (root used : ℕ) (t : Shape) → WellFormed (view s) root used t → numbers_of s used root ≡ ok (numbers_in t)
+pub numbers_are : (s : List ℕ) (root used : ℕ) (t : Shape) → WellFormed (view s) root used t → numbers_of s used root ≡ Ok (numbers_in t)
 unfolding numbers_of
 numbers_are s root used t f =
     ap (walking 3 used s [] []) (sym f.root_is)
@@ -139,7 +139,7 @@ numbers_are s root used t f =
     none [] = tt
     none (x ∷ l) = (tt, none l)
 
-    one : (t : Shape) → IsTree t → (visit : List ℕ → ℕ → Told (List ℕ)) (l : List ℕ) → visit l (head t) ≡ visit_all visit (roots t) l
+    one : (t : Shape) → IsTree t → (visit : List ℕ → ℕ → Result (List ℕ) Fault) (l : List ℕ) → visit l (head t) ≡ visit_all visit (roots t) l
     one (leaf p rs) i visit l = refl
     one (node p f) i visit l = refl
     one (pair a k b) i visit l = absurd i

@@ -1,13 +1,11 @@
 -- Document 01, section 8: "The P cases form one list, and a single theorem about the rules above covers it".
-use Rattle.std.specs.Prelude.{◌≡◌, true, List, ℕ, length}
+use Rattle.std.specs.Prelude.{Option, None, ◌≡◌, true, List, ℕ, length}
 use Rattle.page.specs.Pool.{good_pool}
 use Rattle.page.specs.declared.pool.State.{State}
-use Rattle.row.specs.declared.Stamp.{Stamp}
 use Rattle.row.specs.declared.Pointer.{Pointer}
 use Rattle.row.specs.Write.{cell_size, max_data}
 use Rattle.mvcc.specs.Snapshot.{good_statuses, Statuses}
 use Rattle.mvcc.specs.Facts.{RulesHold}
-use Rattle.mvcc.specs.declared.Current.{Current}
 use Rattle.leaf.specs.CutFacts.{CutCases}
 use Rattle.leaf.specs.FindFacts.{LookupChooses}
 use Rattle.inner_edit.specs.Facts.{EntryEnters, HalvesDivide}
@@ -23,13 +21,13 @@ use Rattle.call_answers.specs.Names.{BadData}
 
 -- P2: data of 4051 passes: it is not what an insertion is refused for; 4052 is BadData
 pub record DataLimit : Type 0 where
-  pub passes : (s : List ℕ) (st : State) (key : ℕ) (cur : Current) (ss : Statuses) → good_pool s st ≡ true → good_statuses ss ≡ true
-      → insert_ready s st key cur ss max_data ≡ new_at s st key cur ss (cell_size Stamp.Absent Pointer.Absent max_data)
-  pub version_passes : (s : List ℕ) (st : State) (key creator : ℕ) (stamp : Stamp) (pointer : Pointer) → good_pool s st ≡ true
+  pub passes : (s : List ℕ) (st : State) (key : ℕ) (cur : Option ℕ) (ss : Statuses) → good_pool s st ≡ true → good_statuses ss ≡ true
+      → insert_ready s st key cur ss max_data ≡ new_at s st key cur ss (cell_size None None max_data)
+  pub version_passes : (s : List ℕ) (st : State) (key creator : ℕ) (stamp : Option ℕ) (pointer : Option Pointer) → good_pool s st ≡ true
       → version_ready s st key creator stamp pointer max_data ≡ version_at s st key creator (cell_size stamp pointer max_data)
-  pub refused_data : (s : List ℕ) (st : State) (key : ℕ) (body : List ℕ) (cur : Current) (ss : Statuses) → good_pool s st ≡ true
+  pub refused_data : (s : List ℕ) (st : State) (key : ℕ) (body : List ℕ) (cur : Option ℕ) (ss : Statuses) → good_pool s st ≡ true
       → good_statuses ss ≡ true → length body ≡ 4052 → insert_call s st key cur ss body ≡ ended (refused BadData) s
-  pub version_refused : (s : List ℕ) (st : State) (key creator : ℕ) (stamp : Stamp) (pointer : Pointer) (body : List ℕ) → good_pool s st ≡ true
+  pub version_refused : (s : List ℕ) (st : State) (key creator : ℕ) (stamp : Option ℕ) (pointer : Option Pointer) (body : List ℕ) → good_pool s st ≡ true
       → length body ≡ 4052 → insert_version_call s st key creator stamp pointer body ≡ ended (refused BadData) s
 
 pub record Cases : Type 0 where

@@ -1,13 +1,11 @@
 -- The calls of demand 3 as values: "two calls from insert, insert version, stamp, claim and remove". What one comes to, "the
 -- tree state's numbers aside", is its number and the versions dropped.
-use Rattle.std.specs.Prelude.{false, ◌≡◌, List, [], ◌∷◌, ℕ, ◌<◌}
+use Rattle.std.specs.Prelude.{Option, false, ◌≡◌, List, [], ◌∷◌, ℕ, ◌<◌}
 use Rattle.store.specs.Le.{AreBytes}
 use Rattle.page.specs.declared.pool.State.{State}
 use Rattle.row.specs.Exact.{StampFits, PointerFits}
-use Rattle.row.specs.declared.Stamp.{Stamp}
 use Rattle.row.specs.declared.Pointer.{Pointer}
 use Rattle.mvcc.specs.Lists.{mem}
-use Rattle.mvcc.specs.declared.Current.{Current}
 use Rattle.page.specs.Pool.{Grown, grown}
 use Rattle.mvcc.specs.Snapshot.{creator_of, Snapshot, Statuses}
 use Rattle.call_answers.specs.Answer.{Ended, Outcome, nothing, value, Value}
@@ -18,8 +16,8 @@ use Rattle.call_clean.specs.Remove.{remove_call}
 use Rattle.call_answers.specs.Names.{NoPages, TooDeep, Undividable}
 
 pub data Change : Type 0 where
-  inserts : (key : ℕ) → Current → Statuses → (body : List ℕ) → Change
-  inserts_version : (key creator : ℕ) → Stamp → Pointer → (body : List ℕ) → Change
+  inserts : (key : ℕ) → Option ℕ → Statuses → (body : List ℕ) → Change
+  inserts_version : (key creator : ℕ) → Option ℕ → Option Pointer → (body : List ℕ) → Change
   stamps : (key : ℕ) → Snapshot → Statuses → (d : ℕ) → Change
   claims : (key : ℕ) → Snapshot → Statuses → Change
   removes : (key : ℕ) → Change

@@ -1,6 +1,7 @@
 -- Demand 3, over the calls themselves, and what it rests on: what each call does to the versions of a well-formed tree.
-use Rattle.std.specs.Prelude.{◌≡◌, true, List, ℕ}
-use Rattle.std.proofs.Math.Option.{Option, none, some}
+use Rattle.call_answers.specs.declared.Refused.{Refused}
+use Rattle.std.specs.Prelude.{Result, Ok, Err, ◌≡◌, true, List, ℕ, Option, None, Some}
+use Rattle.row.specs.declared.Cell.{Cell}
 use Rattle.page.specs.Page.{page}
 use Rattle.leaf.specs.Rows.{Row, row_of}
 use Rattle.mvcc.specs.Snapshot.{lookup, good_statuses, Snapshot, Statuses, creator_of, good_snapshot}
@@ -9,7 +10,6 @@ use Rattle.page.specs.Pool.{Grown}
 use Rattle.call_answers.specs.Answer.{refused, ended}
 use Rattle.call_stamp.specs.Claim.{claim_call}
 use Rattle.call_read.specs.Find.{find_visible_run}
-use Rattle.call_answers.specs.declared.Looked.{Looked}
 use Rattle.theory_tree.specs.Shape.{Shape, chain}
 use Rattle.theory_tree.specs.Versions.{SameVersions, best}
 use Rattle.meaning.specs.Trees.{TreeIn}
@@ -31,9 +31,9 @@ abbrev pub Effect : Type 0
 Effect = (a : Change) (g : Grown) (t : Shape) → TreeIn g t → Fits a → ((meant a (chain t)).number ≡ 0 → Roomy (run a g)) → Does a t (run a g)
 
 -- a lookup finds the version that is meant, by its place
-abbrev pub row_found : List ℕ → Looked → Option Row
-row_found s (Looked.At p c) = some (row_of (page s p) c)
-row_found s (Looked.Refused r) = none
+abbrev pub row_found : List ℕ → Result (ℕ × Cell) Refused → Option Row
+row_found s (Ok (p, c)) = Some (row_of (page s p) c)
+row_found s (Err r) = None
 
 abbrev pub LookupIs : Type 0
 LookupIs =

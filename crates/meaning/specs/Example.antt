@@ -1,8 +1,7 @@
 -- The theorems speak of something: pools with trees of two and three levels, and two claims that meet all premises of
 -- FirstClaims.
-use Rattle.std.specs.Prelude.{◌≡◌, true, [], ◌∷◌, ℕ}
+use Rattle.std.specs.Prelude.{Some, ◌≡◌, true, [], ◌∷◌, ℕ}
 use Rattle.mvcc.specs.Rules.{changed_after}
-use Rattle.mvcc.specs.declared.Current.{Current}
 use Rattle.page.specs.Pool.{Grown}
 use Rattle.call_read.specs.Find.{find_visible_run}
 use Rattle.theory_tree.specs.Shape.{Shape, Deep}
@@ -24,7 +23,7 @@ pub record ManyLevels : Type 0 where
 
 -- transactions 15 and 16 both run: what one of them sees by
 abbrev pub teacher : ℕ → Snapshot
-teacher c = snapshot 20 (15 ∷ 16 ∷ []) (Current.Tx c)
+teacher c = snapshot 20 (15 ∷ 16 ∷ []) (Some c)
 
 -- and both claim key 7
 pub record TwoClaimants : Type 0 where

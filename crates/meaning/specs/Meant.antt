@@ -1,13 +1,9 @@
 -- What a change means (document 01, sections 4 to 6), on the versions alone: a list of rows in which versions of one key and
 -- creator stand as they arrived; where else a row stands plays no part.
-use Rattle.std.specs.Prelude.{Bool, false, not, ◌&&◌, ◌||◌, List, [], ◌∷◌, ◌++◌, ℕ, leb, eqb, length}
-use Rattle.std.proofs.Math.Option.{Option, none, some}
+use Rattle.std.specs.Prelude.{None, Bool, false, not, ◌&&◌, ◌||◌, List, [], ◌∷◌, ◌++◌, ℕ, leb, eqb, length, Option, Some}
 use Rattle.store.specs.Pick.{pick}
-use Rattle.row.specs.declared.Stamp.{Stamp}
-use Rattle.row.specs.declared.Pointer.{Pointer}
 use Rattle.mvcc.specs.Snapshot.{lookup, good_statuses, creator_of, Snapshot, Statuses, good_snapshot, plain_snapshot}
 use Rattle.mvcc.specs.Rules.{visible, claim_conflicting}
-use Rattle.mvcc.specs.declared.Current.{Current}
 use Rattle.leaf.specs.Rows.{Row, only, of_key}
 use Rattle.leaf_edit.specs.EditFacts.{stamp_row}
 use Rattle.theory_tree.specs.Versions.{of_version, best}
@@ -46,8 +42,8 @@ change_last v f (x ∷ xs) = pick (some_of v xs) (x ∷ change_last v f xs) (pic
 
 -- the chosen version, if any, gets the stamp of d: the last of its key and creator that is seen
 abbrev pub on_best : {A : Type 0} → A → (Row → A) → Option Row → A
-on_best absent found none = absent
-on_best absent found (some y) = found y
+on_best absent found None = absent
+on_best absent found (Some y) = found y
 
 abbrev pub stamped : (Row → Bool) → (key d : ℕ) → Row → List Row → List Row
 stamped v key d y l = change_last (λ x. of_version key y.creator x && v x) (stamp_row d) l
@@ -57,12 +53,12 @@ abbrev pub conflict_in : (key : ℕ) → Snapshot → (ℕ → ℕ) → (seen : 
 conflict_in key sn st seen l = some_of (λ x. of_key key x && claim_conflicting sn st seen x.creator x.stamp) l
 
 abbrev pub live_row : (key creator : ℕ) → List ℕ → Row
-live_row key creator body = record { key = key; creator = creator; stamp = Stamp.Absent; pointer = Pointer.Absent; body = body }
+live_row key creator body = record { key = key; creator = creator; stamp = None; pointer = None; body = body }
 
 -- ---- the five calls; refusals in section 6's order
 
 -- 4, 5, 6
-unfoldable pub meant_insert : (key : ℕ) → Current → Statuses → List ℕ → List Row → Meant
+unfoldable pub meant_insert : (key : ℕ) → Option ℕ → Statuses → List ℕ → List Row → Meant
 meant_insert key cur ss body l =
     unless (good_statuses ss) (refused_as BadStatuses l)
     (unless (leb (length body) max_data) (refused_as BadData l)

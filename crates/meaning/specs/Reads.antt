@@ -16,7 +16,7 @@ use Rattle.list_visible.specs.Visible.{scan_rows}
 use Rattle.call_read.specs.Create.{create_call, has_page}
 use Rattle.call_read.specs.Find.{find_visible_call}
 use Rattle.call_read.specs.Conflict.{conflict_call}
-use Rattle.call_read.specs.Listings.{listed_as, versions_of_call, all_versions_call}
+use Rattle.call_read.specs.Listings.{versions_of_call, all_versions_call}
 use Rattle.call_read.specs.Numbers.{page_numbers_call}
 use Rattle.call_read.specs.Scan.{scan_visible_call}
 use Rattle.call_clean.specs.Vacuum.{vacuum_call}
@@ -28,7 +28,7 @@ use Rattle.meaning.specs.Meant.{seen_by, some_of, on_best}
 
 -- the listing x into that output: Done with its length, or Short
 abbrev pub listing : List ℕ → List ℕ → Written (Outcome ℕ)
-listing x out = hide_list (listed_as (fitted x out))
+listing x out = hide_list (fitted x out)
 
 -- "a page, then its children's subtrees from the last child to the first"
 abbrev pub numbers_in : Shape → List ℕ

@@ -1,12 +1,10 @@
 -- Demand 1 (document 01, section 6): "A refused call changes no byte of pool or output and no number of the tree state", "a
 -- refusal carries its number only", and each call has the refusals of its own. For every input, damaged pools too.
-use Rattle.std.specs.Prelude.{◌≡◌, true, List, [], ◌∷◌, ℕ}
+use Rattle.std.specs.Prelude.{Option, ◌≡◌, true, List, [], ◌∷◌, ℕ}
 use Rattle.store.specs.Le.{AreBytes}
 use Rattle.page.specs.declared.pool.State.{State}
-use Rattle.row.specs.declared.Stamp.{Stamp}
 use Rattle.row.specs.declared.Pointer.{Pointer}
 use Rattle.mvcc.specs.Lists.{mem}
-use Rattle.mvcc.specs.declared.Current.{Current}
 use Rattle.call_answers.specs.Answer.{Written, Ended, Outcome, nothing}
 use Rattle.call_read.specs.Create.{create_call}
 use Rattle.call_read.specs.Find.{find_visible_call, find_call}
@@ -43,7 +41,7 @@ pub record ReadsRefuse : Type 0 where
   pub check : (s : List ℕ) (st : State) → Refuses (BadPool ∷ []) (check_call s st)
   pub find_visible : (s : List ℕ) (st : State) (key : ℕ) (sn : Snapshot) (ss : Statuses)
       → Refuses (BadPool ∷ BadSnapshot ∷ BadStatuses ∷ BadTree ∷ Absent ∷ []) (find_visible_call s st key sn ss)
-  pub find : (s : List ℕ) (st : State) (key : ℕ) (cur : Current) (ss : Statuses) → Refuses (BadPool ∷ BadStatuses ∷ BadTree ∷ Absent ∷ []) (find_call s st key cur ss)
+  pub find : (s : List ℕ) (st : State) (key : ℕ) (cur : Option ℕ) (ss : Statuses) → Refuses (BadPool ∷ BadStatuses ∷ BadTree ∷ Absent ∷ []) (find_call s st key cur ss)
   pub conflict : (s : List ℕ) (st : State) (key seen : ℕ) (sn : Snapshot)
       → Refuses (BadPool ∷ BadSnapshot ∷ BadTree ∷ []) (conflict_call s st key sn seen)
   pub versions_of : (s : List ℕ) (st : State) (key : ℕ) (out : List ℕ) → KeepsOutput out (BadPool ∷ BadTree ∷ Short ∷ []) (versions_of_call s st key out)
@@ -54,15 +52,15 @@ pub record ReadsRefuse : Type 0 where
 
 -- a stamp is never Undividable: 9 is none of its refusals, whatever bytes the pool has
 pub record WritesRefuse : Type 0 where
-  pub insert : (s : List ℕ) (st : State) (key : ℕ) (body : List ℕ) (cur : Current) (ss : Statuses)
+  pub insert : (s : List ℕ) (st : State) (key : ℕ) (body : List ℕ) (cur : Option ℕ) (ss : Statuses)
       → Keeps s (BadPool ∷ BadStatuses ∷ BadData ∷ BadTree ∷ Duplicate ∷ Undividable ∷ TooDeep ∷ NoPages ∷ []) (insert_call s st key cur ss body)
-  pub insert_version : (s : List ℕ) (st : State) (key creator : ℕ) (stamp : Stamp) (pointer : Pointer) (body : List ℕ)
+  pub insert_version : (s : List ℕ) (st : State) (key creator : ℕ) (stamp : Option ℕ) (pointer : Option Pointer) (body : List ℕ)
       → Keeps s (BadPool ∷ BadData ∷ BadTree ∷ Undividable ∷ TooDeep ∷ NoPages ∷ []) (insert_version_call s st key creator stamp pointer body)
   pub mark : (s : List ℕ) (st : State) (key d : ℕ) (sn : Snapshot) (ss : Statuses) → AreBytes s
       → Keeps s (BadPool ∷ BadSnapshot ∷ BadStatuses ∷ BadTree ∷ Absent ∷ TooDeep ∷ NoPages ∷ []) (mark_call s st key sn ss d)
-  pub mark_plain : (s : List ℕ) (st : State) (key d : ℕ) (cur : Current) (ss : Statuses) → AreBytes s
+  pub mark_plain : (s : List ℕ) (st : State) (key d : ℕ) (cur : Option ℕ) (ss : Statuses) → AreBytes s
       → Keeps s (BadPool ∷ BadStatuses ∷ BadTree ∷ Absent ∷ TooDeep ∷ NoPages ∷ []) (mark_plain_call s st key cur ss d)
-  pub delete : (s : List ℕ) (st : State) (key : ℕ) (cur : Current) (ss : Statuses) → AreBytes s
+  pub delete : (s : List ℕ) (st : State) (key : ℕ) (cur : Option ℕ) (ss : Statuses) → AreBytes s
       → Keeps s (BadPool ∷ BadStatuses ∷ BadTree ∷ Absent ∷ TooDeep ∷ NoPages ∷ []) (delete_call s st key cur ss)
   pub claim : (s : List ℕ) (st : State) (key : ℕ) (sn : Snapshot) (ss : Statuses) → AreBytes s
       → Keeps s (BadPool ∷ BadSnapshot ∷ BadStatuses ∷ BadTree ∷ Absent ∷ Conflict ∷ TooDeep ∷ NoPages ∷ []) (claim_call s st key sn ss)

@@ -1,27 +1,26 @@
 -- Laws of the rules in specs/Rules and specs/Vacuum: one for each way out of the code that decides them, so that a
 -- proof file only says which tests led there. Assumes nothing.
+use Rattle.std.proofs.Common.{Option, Some, None}
 use mathlib.Core.Path.{◌≡◌}
 use mathlib.Core.Bool.{Bool, true, false, not, and-true, and-false, or-true}
 use mathlib.Core.List.{List}
 use Prim.Native.Nat.{ℕ, ◌≤◌, ◌<◌}
 use borrow.Author.Tests.{lt-ltb, le-ltb, le-leb, lt-leb, eq-eqb, ne_eqb}
-use Rattle.row.specs.declared.Stamp.{Stamp}
 use Rattle.mvcc.specs.Lists.{mem}
 use Rattle.mvcc.specs.Rules.{is_current, of_deleter, finished_with, finished_before, hiding, visible, changed_after, intruding, conflicting}
 use Rattle.mvcc.specs.Vacuum.{aborted_creator, removable_deleter, aborted_deleter, dropped, fate}
 use Rattle.mvcc.specs.Steps.Vacuum.{stamped_fate}
-use Rattle.mvcc.specs.declared.Current.{Current}
 use Rattle.mvcc.specs.declared.vacuum.Fate.{Fate}
 use Rattle.mvcc.specs.Snapshot.{Snapshot, snapshot}
 
 -- ---- a rule of the deleter
 
-module _ (rule : ℕ → Bool) (stamp : Stamp) where
-  pub of_absent : stamp ≡ Stamp.Absent → false ≡ of_deleter rule stamp
+module _ (rule : ℕ → Bool) (stamp : Option ℕ) where
+  pub of_absent : stamp ≡ None → false ≡ of_deleter rule stamp
   unfolding of_deleter
   of_absent e = rw e
 
-  pub of_by : (d : ℕ) → stamp ≡ Stamp.By d → rule d ≡ of_deleter rule stamp
+  pub of_by : (d : ℕ) → stamp ≡ Some d → rule d ≡ of_deleter rule stamp
   unfolding of_deleter
   of_by d e = rw e
 
@@ -57,7 +56,7 @@ module _ (xmax : ℕ) (active : List ℕ) (s t : ℕ) where
 
 module _ (sn : Snapshot) (st : ℕ → ℕ) where
   -- the deleter d
-  module _ (stamp : Stamp) (d : ℕ) (by : stamp ≡ Stamp.By d) where
+  module _ (stamp : Option ℕ) (d : ℕ) (by : stamp ≡ Some d) where
     pub hidden_own : is_current sn.current d ≡ true → true ≡ of_deleter (hiding sn st) stamp
     unfolding of_deleter hiding
     hidden_own e = rw (by, e)
@@ -67,7 +66,7 @@ module _ (sn : Snapshot) (st : ℕ → ℕ) where
     hidden_else e s is = rw (by, e, is)
 
   -- the creator c, whose state is s
-  module _ (c : ℕ) (stamp : Stamp) (s : ℕ) (is : s ≡ st c) where
+  module _ (c : ℕ) (stamp : Option ℕ) (s : ℕ) (is : s ≡ st c) where
     pub unseen_aborted : s ≡ 3 → false ≡ visible sn st c stamp
     unfolding visible
     unseen_aborted e = rw (← is, e)
@@ -102,21 +101,21 @@ module _ (sn : Snapshot) (t : ℕ) where
   intruding_own e = simp (e, and-false)
 
   -- what changed after is asked for any current transaction: it plays no part in that
-  pub intruding_else : (cur : Current) → is_current sn.current t ≡ false → changed_after (snapshot sn.xmax sn.active cur) t ≡ intruding sn t
+  pub intruding_else : (cur : Option ℕ) → is_current sn.current t ≡ false → changed_after (snapshot sn.xmax sn.active cur) t ≡ intruding sn t
   unfolding intruding changed_after
   intruding_else cur e = simp (e, and-true)
 
-module _ (sn : Snapshot) (seen c : ℕ) (stamp : Stamp) where
+module _ (sn : Snapshot) (seen c : ℕ) (stamp : Option ℕ) where
   pub conflict-other : (c ≡ seen → ⊥) → intruding sn c ≡ conflicting sn seen c stamp
   unfolding conflicting
   conflict-other n = rw (ne_eqb c seen n)
 
   module _ (e : c ≡ seen) where
-    pub conflict-live : stamp ≡ Stamp.Absent → false ≡ conflicting sn seen c stamp
+    pub conflict-live : stamp ≡ None → false ≡ conflicting sn seen c stamp
     unfolding conflicting of_deleter
     conflict-live q = rw (eq-eqb c seen e, q)
 
-    pub conflict-stamped : (d : ℕ) → stamp ≡ Stamp.By d → {r : Bool} → r ≡ intruding sn d → r ≡ conflicting sn seen c stamp
+    pub conflict-stamped : (d : ℕ) → stamp ≡ Some d → {r : Bool} → r ≡ intruding sn d → r ≡ conflicting sn seen c stamp
     unfolding conflicting of_deleter
     conflict-stamped d q i = rw (eq-eqb c seen e, q) i
 
@@ -140,16 +139,16 @@ module _ (bound d s : ℕ) where
   stamped_late a h = simp (le-ltb d bound h, ne_eqb s 3 a)
 
 -- of a version whose creator c has the state s
-module _ (st : ℕ → ℕ) (bound c : ℕ) (stamp : Stamp) (s : ℕ) (is : s ≡ st c) where
+module _ (st : ℕ → ℕ) (bound c : ℕ) (stamp : Option ℕ) (s : ℕ) (is : s ≡ st c) where
   pub fate_aborted : s ≡ 3 → Fate.Dropped ≡ fate st bound c stamp
   unfolding fate dropped aborted_creator
   fate_aborted e = rw (← is, e)
 
   module _ (n : s ≡ 3 → ⊥) where
-    pub fate-live : stamp ≡ Stamp.Absent → Fate.Same ≡ fate st bound c stamp
+    pub fate-live : stamp ≡ None → Fate.Same ≡ fate st bound c stamp
     unfolding fate dropped aborted_creator removable_deleter aborted_deleter of_deleter
     fate-live e = rw (← is, ne_eqb s 3 n, e)
 
-    pub fate-stamped : (d : ℕ) → stamp ≡ Stamp.By d → (z : ℕ) → z ≡ st d → stamped_fate bound d z ≡ fate st bound c stamp
+    pub fate-stamped : (d : ℕ) → stamp ≡ Some d → (z : ℕ) → z ≡ st d → stamped_fate bound d z ≡ fate st bound c stamp
     unfolding fate dropped aborted_creator removable_deleter aborted_deleter of_deleter stamped_fate
     fate-stamped d e z q = rw (← is, ne_eqb s 3 n, e, q)

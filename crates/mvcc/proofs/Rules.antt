@@ -1,16 +1,15 @@
 -- The record `RulesHold` of specs/Facts: what section 4's rules say of the cases that readers ask for, and P7 and P8.
 -- Assumes nothing.
+use Rattle.std.proofs.Common.{Some, None}
 use mathlib.Core.Path.{◌≡◌, refl, sym, ◌∙◌}
 use mathlib.Core.Bool.{true, false, and-false, or-true}
 use mathlib.Core.List.{List}
 use Prim.Native.Nat.{ℕ, ◌<◌}
 use borrow.Author.Tests.{lt-ltb, eq-eqb, ne_eqb}
-use Rattle.row.specs.declared.Stamp.{Stamp}
 use Rattle.mvcc.specs.Lists.{mem, state_at}
 use Rattle.mvcc.specs.Rules.{is_current, of_deleter, finished_with, finished_before, hiding, visible, changed_after, intruding, conflicting, claim_conflicting}
 use Rattle.mvcc.specs.Vacuum.{aborted_creator, removable_deleter, aborted_deleter, dropped, fate}
 use Rattle.mvcc.specs.Facts.{RulesHold}
-use Rattle.mvcc.specs.declared.Current.{Current}
 use Rattle.mvcc.specs.Snapshot.{Snapshot, snapshot}
 use Rattle.mvcc.proofs.RuleLaws.{finished_zero, unseen_aborted, seen_own}
 
@@ -24,23 +23,23 @@ zero_finished sn st = sym (finished_zero sn.xmax sn.active (st 0) 0 refl)
 
 -- a version of the current transaction
 module _ (xmax : ℕ) (active : List ℕ) (st : ℕ → ℕ) (c : ℕ) where
-  own_current : is_current (Current.Tx c) c ≡ true
+  own_current : is_current (Some c) c ≡ true
   unfolding is_current
   own_current = eq-eqb c c refl
 
-  own_live : (st c ≡ 3 → ⊥) → visible (snapshot xmax active (Current.Tx c)) st c Stamp.Absent ≡ true
+  own_live : (st c ≡ 3 → ⊥) → visible (snapshot xmax active (Some c)) st c None ≡ true
   unfolding of_deleter
-  own_live n = sym (seen_own (snapshot xmax active (Current.Tx c)) st c Stamp.Absent (st c) refl n own_current)
+  own_live n = sym (seen_own (snapshot xmax active (Some c)) st c None (st c) refl n own_current)
 
-  own_other : (d : ℕ) → (st c ≡ 3 → ⊥) → (d ≡ c → ⊥) → visible (snapshot xmax active (Current.Tx c)) st c (Stamp.By d) ≡ true
+  own_other : (d : ℕ) → (st c ≡ 3 → ⊥) → (d ≡ c → ⊥) → visible (snapshot xmax active (Some c)) st c (Some d) ≡ true
   unfolding of_deleter is_current
-  own_other d n m = sym (seen_own (snapshot xmax active (Current.Tx c)) st c (Stamp.By d) (st c) refl n own_current) ∙ rw (ne_eqb d c m)
+  own_other d n m = sym (seen_own (snapshot xmax active (Some c)) st c (Some d) (st c) refl n own_current) ∙ rw (ne_eqb d c m)
 
-  own_gone : visible (snapshot xmax active (Current.Tx c)) st c (Stamp.By c) ≡ false
+  own_gone : visible (snapshot xmax active (Some c)) st c (Some c) ≡ false
   unfolding visible of_deleter is_current
   own_gone = simp (eq-eqb c c refl, and-false)
 
-unlisted_kept : (st : ℕ → ℕ) (bound d : ℕ) → st d ≡ 0 → removable_deleter st bound (Stamp.By d) ≡ false
+unlisted_kept : (st : ℕ → ℕ) (bound d : ℕ) → st d ≡ 0 → removable_deleter st bound (Some d) ≡ false
 unfolding removable_deleter of_deleter
 unlisted_kept st bound d e = simp (e, and-false)
 

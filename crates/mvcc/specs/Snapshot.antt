@@ -1,32 +1,36 @@
 -- What a call is given to see by (document 01, section 4): a snapshot ("xmax, a strictly rising active list, and possibly a
 -- current transaction") and a status list, each as one value, and which of them are refused (section 6).
-use Rattle.std.specs.Prelude.{Bool, ◌&&◌, List, [], ℕ, length, leb, eqb}
+use Rattle.std.specs.Prelude.{Option, Some, None, Bool, ◌&&◌, List, [], ℕ, length, leb, eqb}
+use Rattle.store.specs.Pick.{pick}
 use Rattle.mvcc.specs.Lists.{rising, are_states, state_at, good_active}
-use Rattle.mvcc.specs.declared.Current.{Current}
 
 pub record Snapshot : Type 0 where
   pub xmax : ℕ
   pub active : List ℕ
-  pub current : Current
+  pub current : Option ℕ
 
-abbrev pub snapshot : (xmax : ℕ) → (active : List ℕ) → Current → Snapshot
+abbrev pub snapshot : (xmax : ℕ) → (active : List ℕ) → Option ℕ → Snapshot
 snapshot xmax active cur = record { xmax = xmax; active = active; current = cur }
 
 -- "active list over 4096 or not strictly rising" is BadSnapshot; this is the rest
 abbrev pub good_snapshot : Snapshot → Bool
 good_snapshot sn = good_active sn.active
 
+-- a snapshot that is not refused
+abbrev pub judged_snapshot : Snapshot → Option Snapshot
+judged_snapshot sn = pick (good_snapshot sn) (Some sn) None
+
 -- "xmax 2^64 - 1, an empty list": the snapshot of insert's duplicate test, plain lookup, plain stamp and plain delete
 abbrev pub plain_xmax : ℕ
 plain_xmax = 18446744073709551615
 
-abbrev pub plain_snapshot : Current → Snapshot
+abbrev pub plain_snapshot : Option ℕ → Snapshot
 plain_snapshot cur = snapshot plain_xmax [] cur
 
 -- the transaction that a call is made by, "or 0 if there is none"
-abbrev pub creator_of : Current → ℕ
-creator_of (Current.Tx t) = t
-creator_of Current.Nobody = 0
+abbrev pub creator_of : Option ℕ → ℕ
+creator_of (Some t) = t
+creator_of None = 0
 
 -- "a lent run of entries (transaction, state)": the transactions, and their states beside them
 pub record Statuses : Type 0 where
@@ -51,3 +55,7 @@ max_statuses = 65536
 unfoldable pub good_statuses : Statuses → Bool
 good_statuses ss =
     leb (length ss.ids) max_statuses && (eqb (length ss.ids) (length ss.states) && (rising ss.ids && are_states ss.states))
+
+-- a status list that is not refused
+abbrev pub judged_statuses : Statuses → Option Statuses
+judged_statuses ss = pick (good_statuses ss) (Some ss) None

@@ -1,4 +1,3 @@
 -- Steps of the code and needs of its stores, which only contracts inside cite.
-pub mod Lists
 pub mod Snapshot
 pub mod Vacuum

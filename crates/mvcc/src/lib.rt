@@ -1,198 +1,313 @@
-// Who sees what (document 01, section 4; mvcc.rs): snapshots and status lists are judged once per call and then
-// searched by halves; one version is tested at a time. Module vacuum has section 5's removal rules.
+// Who sees what (document 01, section 4; mvcc.rs): a call is given a snapshot and a status list, judges each once, and then
+// tests one version at a time; the judged ones are searched by halves. Module vacuum has section 5's removal rules.
 #![tactic(auto)]
 
 pub mod lists;
 pub mod vacuum;
 
-ghost use Rattle.std.specs.Prelude.{◌≡◌, true};
+ghost use Rattle.std.specs.Prelude.{◌≡◌, true, None};
 ghost use Rattle.mvcc.specs.Lists.{rising};
-ghost use Rattle.mvcc.specs.Snapshot.{lookup, creator_of, snapshot, statuses};
+ghost use Rattle.mvcc.specs.Snapshot.{Snapshot, Statuses, lookup, creator_of, snapshot, statuses, plain_snapshot, no_statuses, judged_snapshot, judged_statuses};
 ghost use Rattle.mvcc.specs.Steps.Snapshot.{StatusesJudged};
 ghost use Rattle.mvcc.specs.Rules.{is_current, of_deleter, finished_with, hiding, visible, changed_after, intruding, conflicting, claim_conflicting};
 
-use row::Stamp;
-
-// Nobody and Tx(0) are different inputs.
-#[derive(Clone, Copy)]
-pub enum Current {
-    Nobody,
-    Tx(u64),
-}
+use std::marker::Model;
 
 // The snapshot of calls that are given none: this bound, and an empty active list.
 pub const PLAIN_XMAX: u64 = 18446744073709551615;
 
+// What a caller sees by: the bound, the transactions that were active below it, and its own, if any. Nothing is judged yet.
+#[derive(Drop)]
+pub struct Snapshot<'a> {
+    pub xmax: u64,
+    pub active: &'a [u64],
+    pub current: Option<u64>,
+}
+
+impl<'a> Model for Snapshot<'a> {
+    ghost Value = { Snapshot };
+
+    ghost view = { λ s. snapshot s.xmax s.active.now s.current };
+}
+
+// A status list as its caller gives it: transactions, and their states beside them. Nothing is judged yet.
+#[derive(Drop)]
+pub struct Statuses<'a> {
+    pub ids: &'a [u64],
+    pub states: &'a [u8],
+}
+
+impl<'a> Model for Statuses<'a> {
+    ghost Value = { Statuses };
+
+    ghost view = { λ s. statuses s.ids.now s.states.now };
+}
+
+// A snapshot whose active list is at most 4096 long and strictly rising.
+#[derive(Drop)]
+pub struct JudgedSnapshot<'a> {
+    xmax: u64,
+    active: &'a [u64],
+    current: Option<u64>,
+}
+
+impl<'a> Model for JudgedSnapshot<'a> {
+    ghost Value = { Snapshot };
+
+    ghost view = { λ s. snapshot s.xmax s.active.now s.current };
+
+    ghost invariant = { λ s. rising s.active.now ≡ true };
+}
+
+// A status list that is strictly rising, with a state for each transaction.
+#[derive(Drop)]
+pub struct JudgedStatuses<'a> {
+    ids: &'a [u64],
+    states: &'a [u8],
+}
+
+impl<'a> Model for JudgedStatuses<'a> {
+    ghost Value = { Statuses };
+
+    ghost view = { λ s. statuses s.ids.now s.states.now };
+
+    ghost invariant = { λ s. StatusesJudged (statuses s.ids.now s.states.now) };
+}
+
 // The current transaction's number, or 0 if there is none: the creator of what it inserts.
-pub fn creator_of(cur: Current) -> u64
-    ensures { result ≡ creator_of cur }
+pub fn creator_of(current: Option<u64>) -> u64
+    ensures { result ≡ creator_of current }
 {
-    match cur {
-        Current::Tx(t) => t,
-        Current::Nobody => 0,
-    }
+    current.unwrap_or(0)
 }
 
-fn is_current(cur: Current, tx: u64) -> bool
-    ensures { result ≡ is_current cur tx }
-{
-    match cur {
-        Current::Tx(c) => tx == c,
-        Current::Nobody => false,
-    }
-}
-
-// With the state already looked up, so that a creator's is looked up once.
-fn committed_before_snapshot(xmax: u64, active: &[u64], state: u8, tx: u64) -> bool
-    requires { rising active.now ≡ true }
-    ensures { result ≡ finished_with xmax active.now state tx }
-{
-    if tx == 0 {
-        return true;
-    }
-    if xmax <= tx {
-        return false;
-    }
-    if state == 1 {
-        return false;
-    }
-    if state == 3 {
-        return false;
-    }
-    if lists::in_active(active, tx) {
-        return false;
-    }
-    true
-}
-
-fn own_stamp(cur: Current, stamp: Stamp) -> bool
-    ensures { result ≡ of_deleter (is_current cur) stamp }
-{
-    match stamp {
-        Stamp::By(d) => is_current(cur, d),
-        Stamp::Absent => false,
-    }
-}
-
-// The state of tx, given that of the creator: where they are one transaction, it is not looked up again.
-fn state_beside(ids: &[u64], states: &[u8], creator: u64, state: u8, tx: u64) -> u8
-    requires { StatusesJudged (statuses ids.now states.now) × (state ≡ lookup (statuses ids.now states.now) creator) }
-    ensures { result ≡ lookup (statuses ids.now states.now) tx }
-{
-    if tx == creator {
-        return state;
-    }
-    lists::status_of(ids, states, tx)
-}
-
-fn hides(
-    xmax: u64,
-    active: &[u64],
-    cur: Current,
-    ids: &[u64],
-    states: &[u8],
-    creator: u64,
-    state: u8,
-    stamp: Stamp,
-) -> bool
-    requires { StatusesJudged (statuses ids.now states.now) × (rising active.now ≡ true) × (state ≡ lookup (statuses ids.now states.now) creator) }
-    ensures { result ≡ of_deleter (hiding (snapshot xmax active.now cur) (lookup (statuses ids.now states.now))) stamp }
-{
-    match stamp {
-        Stamp::By(d) => {
-            if is_current(cur, d) {
-                return true;
-            }
-            let other = state_beside(ids, states, creator, state, d);
-            committed_before_snapshot(xmax, active, other, d)
+impl<'a> Snapshot<'a> {
+    // The snapshot of calls that are given none: all that is finished is seen.
+    pub fn plain(current: Option<u64>) -> Snapshot<'a>
+        ensures { result ≡ plain_snapshot current }
+    {
+        Snapshot {
+            xmax: PLAIN_XMAX,
+            active: &[],
+            current,
         }
-        Stamp::Absent => false,
+    }
+
+    // The same, once judged; none where it is a BadSnapshot.
+    pub fn judged(&self) -> Option<JudgedSnapshot<'a>>
+        ensures { result ≡ judged_snapshot self.now }
+    {
+        if !lists::good_active(self.active) {
+            return None;
+        }
+        Some(JudgedSnapshot {
+            xmax: self.xmax,
+            active: self.active,
+            current: self.current,
+        })
     }
 }
 
-// Whether the snapshot sees a version of that creator and stamp.
-pub fn is_visible(
-    xmax: u64,
-    active: &[u64],
-    cur: Current,
-    ids: &[u64],
-    states: &[u8],
-    creator: u64,
-    stamp: Stamp,
-) -> bool
-    requires { StatusesJudged (statuses ids.now states.now) × (rising active.now ≡ true) }
-    ensures { result ≡ visible (snapshot xmax active.now cur) (lookup (statuses ids.now states.now)) creator stamp }
-{
-    let state = lists::status_of(ids, states, creator);
-    if state == 3 {
-        return false;
-    }
-    if is_current(cur, creator) {
-        let own = own_stamp(cur, stamp);
-        return !own;
-    }
-    if committed_before_snapshot(xmax, active, state, creator) {
-        let hidden = hides(xmax, active, cur, ids, states, creator, state, stamp);
-        return !hidden;
-    }
-    false
-}
-
-// Whether tx changed after the snapshot: it is at or above xmax, or in the active list.
-pub fn changed_after_snapshot(xmax: u64, active: &[u64], tx: u64) -> bool
-    requires { rising active.now ≡ true }
-    ensures { result ≡ changed_after (snapshot xmax active.now Current.Nobody) tx }
-{
-    if xmax <= tx {
-        return true;
-    }
-    lists::in_active(active, tx)
-}
-
-fn intrudes(xmax: u64, active: &[u64], cur: Current, tx: u64) -> bool
-    requires { rising active.now ≡ true }
-    ensures { result ≡ intruding (snapshot xmax active.now cur) tx }
-{
-    if is_current(cur, tx) {
-        return false;
-    }
-    changed_after_snapshot(xmax, active, tx)
-}
-
-// One version of the key, against the creator number that the caller has seen.
-pub fn version_conflicts(
-    xmax: u64,
-    active: &[u64],
-    cur: Current,
-    seen: u64,
-    creator: u64,
-    stamp: Stamp,
-) -> bool
-    requires { rising active.now ≡ true }
-    ensures { result ≡ conflicting (snapshot xmax active.now cur) seen creator stamp }
-{
-    if creator != seen {
-        return intrudes(xmax, active, cur, creator);
-    }
-    match stamp {
-        Stamp::By(d) => intrudes(xmax, active, cur, d),
-        Stamp::Absent => false,
+impl<'a> Statuses<'a> {
+    // The same, once judged; none where these are BadStatuses.
+    pub fn judged(&self) -> Option<JudgedStatuses<'a>>
+        ensures { result ≡ judged_statuses self.now }
+    {
+        if !lists::good_statuses(self.ids, self.states) {
+            return None;
+        }
+        Some(JudgedStatuses {
+            ids: self.ids,
+            states: self.states,
+        })
     }
 }
 
-// Claim's own test, which may come to ask the status list.
-pub fn claim_conflicts(
-    xmax: u64,
-    active: &[u64],
-    cur: Current,
-    ids: &[u64],
-    states: &[u8],
-    seen: u64,
-    creator: u64,
-    stamp: Stamp,
-) -> bool
-    requires { StatusesJudged (statuses ids.now states.now) × (rising active.now ≡ true) }
-    ensures { result ≡ claim_conflicting (snapshot xmax active.now cur) (lookup (statuses ids.now states.now)) seen creator stamp }
-{
-    version_conflicts(xmax, active, cur, seen, creator, stamp)
+impl<'a> JudgedStatuses<'a> {
+    // A list that is known to be strictly rising, with a state for each transaction.
+    pub fn new(ids: &'a [u64], states: &'a [u8]) -> JudgedStatuses<'a>
+        requires { StatusesJudged (statuses ids.now states.now) }
+        ensures { result ≡ statuses ids.now states.now }
+    {
+        JudgedStatuses { ids, states }
+    }
+
+    // A list without entries, for a call in which statuses play no part.
+    pub fn none() -> JudgedStatuses<'a>
+        ensures { result ≡ no_statuses }
+    {
+        JudgedStatuses {
+            ids: &[],
+            states: &[],
+        }
+    }
+
+    // The state of tx: 1 active, 2 committed, 3 aborted; 0 where it is not listed.
+    pub fn state_of(&self, tx: u64) -> u8
+        ensures { result ≡ lookup self.now tx }
+    {
+        lists::status_of(self.ids, self.states, tx)
+    }
+
+    // The state of tx, given that of the creator: where they are one transaction, it is not looked up again.
+    fn state_beside(&self, creator: u64, state: u8, tx: u64) -> u8
+        requires { state ≡ lookup self.now creator }
+        ensures { result ≡ lookup self.now tx }
+    {
+        if tx == creator {
+            return state;
+        }
+        self.state_of(tx)
+    }
+}
+
+impl<'a> JudgedSnapshot<'a> {
+    // A snapshot whose active list is known to be strictly rising.
+    pub fn new(xmax: u64, active: &'a [u64], current: Option<u64>) -> JudgedSnapshot<'a>
+        requires { rising active.now ≡ true }
+        ensures { result ≡ snapshot xmax active.now current }
+    {
+        JudgedSnapshot {
+            xmax,
+            active,
+            current,
+        }
+    }
+
+    // The snapshot of calls that are given none, which needs no judgement.
+    pub fn plain(current: Option<u64>) -> JudgedSnapshot<'a>
+        ensures { result ≡ plain_snapshot current }
+    {
+        JudgedSnapshot {
+            xmax: PLAIN_XMAX,
+            active: &[],
+            current,
+        }
+    }
+
+    fn is_current(&self, tx: u64) -> bool
+        ensures { result ≡ is_current self.now.current tx }
+    {
+        match self.current {
+            Some(c) => tx == c,
+            None => false,
+        }
+    }
+
+    fn is_own(&self, stamp: Option<u64>) -> bool
+        ensures { result ≡ of_deleter (is_current self.now.current) stamp }
+    {
+        match stamp {
+            Some(d) => self.is_current(d),
+            None => false,
+        }
+    }
+
+    // With the state already looked up, so that a creator's is looked up once.
+    fn committed_before(&self, state: u8, tx: u64) -> bool
+        ensures { result ≡ finished_with self.now.xmax self.now.active state tx }
+    {
+        if tx == 0 {
+            return true;
+        }
+        if self.xmax <= tx {
+            return false;
+        }
+        if state == 1 {
+            return false;
+        }
+        if state == 3 {
+            return false;
+        }
+        if lists::in_active(self.active, tx) {
+            return false;
+        }
+        true
+    }
+
+    fn hides(
+        &self,
+        statuses: &JudgedStatuses<'_>,
+        creator: u64,
+        state: u8,
+        stamp: Option<u64>,
+    ) -> bool
+        requires { state ≡ lookup statuses.now creator }
+        ensures { result ≡ of_deleter (hiding self.now (lookup statuses.now)) stamp }
+    {
+        match stamp {
+            Some(d) => {
+                if self.is_current(d) {
+                    return true;
+                }
+                let other = statuses.state_beside(creator, state, d);
+                self.committed_before(other, d)
+            }
+            None => false,
+        }
+    }
+
+    // Whether the snapshot sees a version of that creator and stamp.
+    pub fn sees(&self, statuses: &JudgedStatuses<'_>, creator: u64, stamp: Option<u64>) -> bool
+        ensures { result ≡ visible self.now (lookup statuses.now) creator stamp }
+    {
+        let state = statuses.state_of(creator);
+        if state == 3 {
+            return false;
+        }
+        if self.is_current(creator) {
+            let own = self.is_own(stamp);
+            return !own;
+        }
+        if self.committed_before(state, creator) {
+            let hidden = self.hides(statuses, creator, state, stamp);
+            return !hidden;
+        }
+        false
+    }
+
+    // Whether tx changed after the snapshot: it is at or above xmax, or in the active list.
+    pub fn changed_after(&self, tx: u64) -> bool
+        ensures { result ≡ changed_after self.now tx }
+    {
+        if self.xmax <= tx {
+            return true;
+        }
+        lists::in_active(self.active, tx)
+    }
+
+    fn intrudes(&self, tx: u64) -> bool
+        ensures { result ≡ intruding self.now tx }
+    {
+        if self.is_current(tx) {
+            return false;
+        }
+        self.changed_after(tx)
+    }
+
+    // One version of the key, against the creator number that the caller has seen.
+    pub fn conflicts(&self, seen: u64, creator: u64, stamp: Option<u64>) -> bool
+        ensures { result ≡ conflicting self.now seen creator stamp }
+    {
+        if creator != seen {
+            return self.intrudes(creator);
+        }
+        match stamp {
+            Some(d) => self.intrudes(d),
+            None => false,
+        }
+    }
+
+    // Claim's own test, which may come to ask the status list.
+    pub fn claim_conflicts(
+        &self,
+        statuses: &JudgedStatuses<'_>,
+        seen: u64,
+        creator: u64,
+        stamp: Option<u64>,
+    ) -> bool
+        ensures { result ≡ claim_conflicting self.now (lookup statuses.now) seen creator stamp }
+    {
+        self.conflicts(seen, creator, stamp)
+    }
 }

@@ -1,15 +1,13 @@
 // What vacuum does to one version (document 01, section 5; vacuum.rs).
 ghost use Rattle.std.specs.Prelude.{◌≡◌};
-ghost use Rattle.mvcc.specs.Snapshot.{lookup, statuses};
-ghost use Rattle.mvcc.specs.Steps.Snapshot.{StatusesJudged};
+ghost use Rattle.mvcc.specs.Snapshot.{lookup};
 ghost use Rattle.mvcc.specs.Steps.Vacuum.{stamped_fate};
 ghost use Rattle.mvcc.specs.Vacuum.{fate};
 
-use crate::lists::status_of;
-use row::Stamp;
+use crate::JudgedStatuses;
 
 // Dropped, kept with its stamp cleared, or kept as it is.
-#[derive(Clone, Copy)]
+#[derive(Clone, Copy, PartialEq, Eq, Debug)]
 pub enum Fate {
     Dropped,
     Cleared,
@@ -32,16 +30,17 @@ fn stamped_fate(bound: u64, d: u64, state: u8) -> Fate
     Fate::Same
 }
 
-// What vacuum at that bound does to a version of that creator and stamp.
-pub fn fate_of(ids: &[u64], states: &[u8], bound: u64, creator: u64, stamp: Stamp) -> Fate
-    requires { StatusesJudged (statuses ids.now states.now) }
-    ensures { result ≡ fate (lookup (statuses ids.now states.now)) bound creator stamp }
-{
-    if status_of(ids, states, creator) == 3 {
-        return Fate::Dropped;
-    }
-    match stamp {
-        Stamp::By(d) => stamped_fate(bound, d, status_of(ids, states, d)),
-        Stamp::Absent => Fate::Same,
+impl<'a> JudgedStatuses<'a> {
+    // What vacuum at that bound does to a version of that creator and stamp.
+    pub fn fate_of(&self, bound: u64, creator: u64, stamp: Option<u64>) -> Fate
+        ensures { result ≡ fate (lookup self.now) bound creator stamp }
+    {
+        if self.state_of(creator) == 3 {
+            return Fate::Dropped;
+        }
+        match stamp {
+            Some(d) => stamped_fate(bound, d, self.state_of(d)),
+            None => Fate::Same,
+        }
     }
 }

@@ -1,24 +1,26 @@
--- A run of entries as its two lists of numbers, and what the place that `seek` finds says of a transaction.
+-- A run of entries as its two lists of numbers, and what a search by halves says of a transaction.
 -- Assumes nothing.
-use mathlib.Core.Path.{◌≡◌, refl, sym, ◌∙◌}
-use mathlib.Core.Bool.{Bool, true, false}
-use mathlib.Core.List.{List, [], ◌∷◌}
+use Rattle.std.proofs.Common.{nat_cmp, Result, Ok, Err}
+use Rattle.std.proofs.lemmas.Bool.Decides.{nat_tests}
+use Rattle.std.specs.List.Sorted.{IsBinarySearchResult}
+use mathlib.Core.Path.{◌≡◌, sym, ◌∙◌}
+use mathlib.Core.Bool.{Bool, true}
+use mathlib.Core.List.{List}
 use Prim.Native.Nat.{ℕ, ◌+◌, ◌≤◌, ◌<◌}
 use native.Mathlib.Nat.{zero-add}
 use native.Mathlib.Omega.{arith}
 use lib.ListN.{length, get_or, set, drop, length-map, get_or-map, drop_of_length-le}
-use lib.Dec.{ltb, eqb}
-use borrow.Author.Tests.{eqb-true, eqb-false, ltb-false, lt-ltb, le-ltb, eq-eqb, ne_eqb}
-use Rattle.store.specs.Pick.{pick}
 use Rattle.store.specs.Part.{put}
-use Rattle.mvcc.specs.Lists.{rising, state_at}
-use Rattle.mvcc.specs.Steps.Lists.{below}
-use Rattle.mvcc.specs.Snapshot.{lookup, good_statuses, statuses}
+use Rattle.mvcc.specs.Lists.{rising}
+use Rattle.mvcc.specs.Snapshot.{lookup, statuses}
 use Rattle.mvcc_entries.specs.declared.Entry.{Entry}
-use Rattle.mvcc_entries.specs.Steps.Entries.{none}
-use Rattle.mvcc_entries.specs.Entries.{txs, sts, status_call, room_code, unpack_code, unpacked_to, Unpacked}
+use Rattle.mvcc_entries.specs.Entries.{txs, sts, room_of}
 use Rattle.store.proofs.PutLaws.{put-done, step_in}
-use Rattle.mvcc.proofs.Laws.{lookup_at, lookup-past, lookup-other}
+use Rattle.mvcc.proofs.Laws.{searched_in, lookup_at, lookup-none}
+
+-- what is read past the end
+abbrev pub none : Entry
+none = record { tx = 0; state = 0 }
 
 pub length-txs : (es : List Entry) → length (txs es) ≡ length es
 unfolding txs
@@ -36,19 +38,32 @@ pub sts_at : (es : List Entry) (i : ℕ) → get_or (sts es) i 0 ≡ (get_or es 
 unfolding sts
 sts_at es i = get_or-map (λ (e : Entry). e.state) es i none
 
-module _ (es : List Entry) (t i : ℕ) (rises : rising (txs es) ≡ true) (at : i ≡ below t (txs es)) where
-  -- past the last entry: absent
-  pub past : length es ≤ i → 0 ≡ lookup (statuses (txs es) (sts es)) t
-  past h = lookup-past t (txs es) i rises at (sts es) (omega (arith, length-txs es))
+-- ---- what a search by halves finds, in a list that rises
 
-  -- at an entry: what that entry alone says
-  pub here : i < length es → lookup (statuses ((get_or es i none).tx ∷ []) ((get_or es i none).state ∷ [])) t ≡ lookup (statuses (txs es) (sts es)) t
-  unfolding state_at
-  here h = go (eqb (get_or es i none).tx t) refl
-    where
-      go : (b : Bool) → eqb (get_or es i none).tx t ≡ b → pick b (get_or es i none).state 0 ≡ lookup (statuses (txs es) (sts es)) t
-      go true e = sym (lookup_at t (txs es) (sts es) i rises (omega (arith, length-txs es)) (omega (arith, length-sts es)) (txs_at es i ∙ eqb-true _ _ e) ∙ sts_at es i)
-      go false e = lookup-other t (txs es) i rises at (sts es) (λ q. eqb-false _ _ e (sym (txs_at es i) ∙ q))
+module _ (es : List Entry) (t : ℕ) where
+  tx_at : (k : ℕ) (d : Entry) → get_or (txs es) k d.tx ≡ (get_or es k d).tx
+  unfolding txs
+  tx_at k d = get_or-map (λ (e : Entry). e.tx) es k d
+
+  abbrev past : ℕ → Entry
+  past d = record { tx = d; state = 0 }
+
+  -- a search by the transactions is a search in the transactions
+  searched_by_tx : (r : Result ℕ ℕ) → IsBinarySearchResult (λ (e : Entry). nat_cmp e.tx t) es r → IsBinarySearchResult (λ x. nat_cmp x t) (txs es) r
+  searched_by_tx (Ok i) h = λ d. rw (tx_at i (past d)) (h (past d))
+  searched_by_tx (Err i) h =
+      λ rises.
+      let p = h (λ i j d u v. rw (tx_at i d, tx_at j d) at (rises i j d.tx u (omega (arith, length-txs es, v)))) in
+      (λ k d u v. rw (tx_at k (past d)) (p.0 k (past d) u v), λ k d u v. rw (tx_at k (past d)) (p.1 k (past d) u (omega (arith, length-txs es, v))))
+
+  module _ (rises : rising (txs es) ≡ true) (i : ℕ) where
+    pub state_found : IsBinarySearchResult (λ (e : Entry). nat_cmp e.tx t) es (Ok i) → (get_or es i none).state ≡ lookup (statuses (txs es) (sts es)) t
+    state_found h =
+        let p = searched_in t (txs es) rises (Ok i) (searched_by_tx (Ok i) h) in
+        sym (sts_at es i) ∙ sym (lookup_at t (txs es) (sts es) i rises p.0 (omega (arith, length-txs es, length-sts es, p.0)) p.1)
+
+    pub state_missing : IsBinarySearchResult (λ (e : Entry). nat_cmp e.tx t) es (Err i) → 0 ≡ lookup (statuses (txs es) (sts es)) t
+    state_missing h = sym (lookup-none t (txs es) (sts es) (searched_in t (txs es) rises (Err i) (searched_by_tx (Err i) h)))
 
 -- ---- a store into a number slice, one entry a turn: what is left to store after a turn gives what was left before it
 
@@ -69,61 +84,8 @@ txs-put es i h = put-done i (drop_of_length-le (txs es) (omega (arith, length-tx
 pub sts-put : (es : List Entry) (i : ℕ) {s r : List ℕ} → length es ≤ i → put i (drop i (sts es)) s ≡ r → s ≡ r
 sts-put es i h = put-done i (drop_of_length-le (sts es) (omega (arith, length-sts es)))
 
--- ---- what status_in answers
+-- ---- Ok says that both slices have room
 
-pub status_good : (es : List Entry) (t : ℕ) → good_statuses (statuses (txs es) (sts es)) ≡ true → lookup (statuses (txs es) (sts es)) t ≡ status_call es t
-unfolding status_call
-status_good es t e = rw e
-
-pub status_bad : (es : List Entry) (t : ℕ) → good_statuses (statuses (txs es) (sts es)) ≡ false → 4 ≡ status_call es t
-unfolding status_call
-status_bad es t e = rw e
-
--- ---- what unpack answers: the code, test by test, and what the two slices hold
-
-module _ (good : Bool) (k n m : ℕ) where
-  code_fits : room_code good k n m ≡ 0 → (k ≤ n) × (k ≤ m)
-  unfolding room_code
-  code_fits = go good (ltb n k) (ltb m k) refl refl
-    where
-      go : (g a b : Bool) → ltb n k ≡ a → ltb m k ≡ b → ◌≡◌ {A = ℕ} (pick g (pick a 12 (pick b 12 0)) 4) 0 → (k ≤ n) × (k ≤ m)
-      go true true b p q z = absurd (omega arith)
-      go true false true p q z = absurd (omega arith)
-      go true false false p q z = (ltb-false n k p, ltb-false m k q)
-      go false a b p q z = absurd (omega arith)
-
-  pub code_bad : good ≡ false → 4 ≡ room_code good k n m
-  unfolding room_code
-  code_bad e = rw e
-
-  module _ (e : good ≡ true) where
-    pub code_short : n < k → 12 ≡ room_code good k n m
-    unfolding room_code
-    code_short h = rw (e, lt-ltb n k h)
-
-    pub code_short_too : k ≤ n → m < k → 12 ≡ room_code good k n m
-    unfolding room_code
-    code_short_too h l = rw (e, le-ltb n k h, lt-ltb m k l)
-
-    pub code-done : k ≤ n → k ≤ m → 0 ≡ room_code good k n m
-    unfolding room_code
-    code-done h l = rw (e, le-ltb n k h, le-ltb m k l)
-
-module _ (es : List Entry) (ids states : List ℕ) (c : ℕ) (is : c ≡ unpack_code es (length ids) (length states)) where
-  pub unpacked_refused : (c ≡ 0 → ⊥) → Unpacked es ids states c ids states
-  unfolding unpacked_to
-  unpacked_refused n = record { code = is; ids_after = rw (← is, ne_eqb c 0 n); states_after = rw (← is, ne_eqb c 0 n) }
-
-  module _ (done : c ≡ 0) where
-    pub unpacked_fits : (length es ≤ length ids) × (length es ≤ length states)
-    unfolding unpack_code
-    unpacked_fits = code_fits _ _ _ _ (sym is ∙ done)
-
-    pub unpacked_done : (zs ws : List ℕ) → zs ≡ put 0 (txs es) ids → ws ≡ put 0 (sts es) states → Unpacked es ids states 0 zs ws
-    unfolding unpacked_to
-    unpacked_done zs ws p q = record { code = sym done ∙ is; ids_after = rw (← is, eq-eqb c 0 done) p; states_after = rw (← is, eq-eqb c 0 done) q }
-
--- the code that room_code answers is unpack's, once the list is judged
-pub unpack-code : (es : List Entry) (n m : ℕ) (good : Bool) (c : ℕ) → good ≡ good_statuses (statuses (txs es) (sts es)) → c ≡ room_code good (length es) n m → c ≡ unpack_code es n m
-unfolding unpack_code
-unpack-code es n m good c g e = rw (← g) e
+pub room_fits : (good : Bool) (k n m : ℕ) → room_of good k n m ≡ Ok tt → (k ≤ n) × (k ≤ m)
+unfolding room_of
+room_fits good k n m e = (grind (arith, nat_tests), grind (arith, nat_tests))

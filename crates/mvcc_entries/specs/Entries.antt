@@ -1,11 +1,13 @@
 -- A status list as one slice of entries (document 01, section 4: "a lent run of entries (transaction, state)"), said by
 -- mvcc's definitions on its two lists of numbers; and what the two calls on such a list answer (section 6).
-use Rattle.std.specs.Prelude.{◌≡◌, Bool, List, map, ℕ, length, ltb, eqb}
+use Rattle.std.specs.Prelude.{◌≡◌, Bool, List, map, ℕ, length, ltb, eqb, Result, Ok, Err}
 use Rattle.store.specs.Pick.{pick}
 use Rattle.store.specs.Part.{put}
 use Rattle.mvcc.specs.Snapshot.{lookup, good_statuses, statuses}
 use Rattle.mvcc_entries.specs.declared.Entry.{Entry}
-use Rattle.call_answers.specs.Names.{Short, BadStatuses, unless}
+use Rattle.call_answers.specs.Names.{BadStatuses, unless}
+use Rattle.call_answers.specs.Answer.{outcome_of}
+use Rattle.call_answers.specs.declared.Refusal.{Refusal}
 
 -- the transactions of a run of entries, and their states
 unfoldable pub txs : List Entry → List ℕ
@@ -20,8 +22,11 @@ status_call es tx = pick (good_statuses (statuses (txs es) (sts es))) (lookup (s
 
 -- section 6: 4 is BadStatuses, 12 is Short, in that order, and 0 is Done; of a list of k entries, good or not, and room
 -- for n and m numbers
-unfoldable pub room_code : (good : Bool) → (k n m : ℕ) → ℕ
-room_code good k n m = unless good BadStatuses (pick (ltb n k) Short (pick (ltb m k) Short 0))
+unfoldable pub room_of : (good : Bool) → (k n m : ℕ) → Result Unit Refusal
+room_of good k n m = unless good (Err Refusal.BadStatuses) (pick (ltb n k) (Err Refusal.Short) (pick (ltb m k) (Err Refusal.Short) (Ok tt)))
+
+abbrev pub room_code : (good : Bool) → (k n m : ℕ) → ℕ
+room_code good k n m = (outcome_of (room_of good k n m)).number
 
 unfoldable pub unpack_code : List Entry → (n m : ℕ) → ℕ
 unpack_code es n m = room_code (good_statuses (statuses (txs es) (sts es))) (length es) n m

@@ -1,3 +1,2 @@
 -- What a reader of the contracts of `mvcc_entries` has to believe.
 pub mod Entries
-pub mod Steps

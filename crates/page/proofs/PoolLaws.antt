@@ -57,3 +57,11 @@ unfolding with_fresh next_page set_page
 fresh_done s st e =
     let n : st.used * 4096 + 4096 - st.used * 4096 ≡ 4096 = omega arith in
     e ∙ rw n (put-splice (st.used * 4096) 4096 (zeros 4096) s (length-replicate {A = ℕ} 4096 0))
+
+-- what a walk over the pages in use asks of the pool
+module _ (s : List ℕ) (st : State) (good : good_pool s st ≡ true) where
+  pub pool_room : st.used * 4096 ≤ length s
+  pool_room = (pool-is s st good).room
+
+  pub pool_few : st.used ≤ 65536
+  pool_few = let p = pool-is s st good in omega (arith, p.in_use, p.few)

@@ -1,35 +1,17 @@
 -- What each writing call gives, in words and pool, from the call that it passes on. Assumes nothing.
+use Rattle.std.proofs.Common.{Option}
 use mathlib.Core.Path.{◌≡◌, ap, ◌∙◌}
-use mathlib.Core.Bool.{Bool, true, false}
 use mathlib.Core.List.{List}
 use Prim.Native.Nat.{ℕ}
 use Rattle.page.specs.declared.pool.State.{State}
-use Rattle.row.specs.declared.Stamp.{Stamp}
 use Rattle.row.specs.declared.Pointer.{Pointer}
-use Rattle.mvcc.specs.declared.Current.{Current}
 use Rattle.call_answers.specs.Answer.{ended, Ended, Outcome}
 use Rattle.call_insert.specs.Insert.{insert_call, insert_version_call}
 use Rattle.call_stamp.specs.Mark.{mark_call, mark_plain_call, delete_call}
 use Rattle.call_stamp.specs.Claim.{claim_call}
 use Rattle.call_clean.specs.Remove.{remove_call}
-use Rattle.port.specs.Words.{stamp_of, pointer_of, Called, called, given, called_pool, given_pool}
+use Rattle.port.specs.Words.{Called, called, given, called_pool, given_pool}
 use Rattle.mvcc.specs.Snapshot.{Statuses, snapshot}
-
--- ---- a stamp and a pointer
-
-module _ {b : Bool} (tx : ℕ) where
-  pub stamp_some : b ≡ true → Stamp.By tx ≡ stamp_of b tx
-  stamp_some e = rw e
-
-  pub stamp-none : b ≡ false → Stamp.Absent ≡ stamp_of b tx
-  stamp-none e = rw e
-
-module _ {b : Bool} (p t : ℕ) where
-  pub pointer_some : b ≡ true → Pointer.At p t ≡ pointer_of b p t
-  pointer_some e = rw e
-
-  pub pointer_none : b ≡ false → Pointer.Absent ≡ pointer_of b p t
-  pointer_none e = rw e
 
 -- ---- the words of an answer
 
@@ -42,14 +24,14 @@ passed-pool {A} w {o} {e} {n} {t} {s} old q f =
 -- ---- a call asked with an equal key and an equal current transaction
 
 module _ (s : List ℕ) (st : State) {k l : ℕ} (key : k ≡ l) where
-  pub insert_version_asked : {a b : Stamp} {p q : Pointer} (creator : ℕ) (body : List ℕ) → a ≡ b → p ≡ q
+  pub insert_version_asked : {a b : Option ℕ} {p q : Option Pointer} (creator : ℕ) (body : List ℕ) → a ≡ b → p ≡ q
       → insert_version_call s st k creator a p body ≡ insert_version_call s st l creator b q body
   insert_version_asked creator body e f = rw (key, e, f)
 
   pub remove_asked : remove_call s st k ≡ remove_call s st l
   remove_asked = rw key
 
-module _ (s : List ℕ) (st : State) {k l : ℕ} {x y : Current} (key : k ≡ l) (cur : x ≡ y) where
+module _ (s : List ℕ) (st : State) {k l : ℕ} {x y : Option ℕ} (key : k ≡ l) (cur : x ≡ y) where
   pub insert_asked : (body : List ℕ) (ss : Statuses) → insert_call s st k x ss body ≡ insert_call s st l y ss body
   insert_asked body ss = rw (key, cur)
 

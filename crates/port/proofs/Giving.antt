@@ -1,4 +1,6 @@
 -- What the stores of an answer leave in the lent words, and what each call then gives. Assumes nothing.
+use Rattle.std.proofs.Common.{Option, Some, None}
+use Rattle.std.specs.Bool.{then_some}
 use mathlib.Core.Path.{◌≡◌, refl, ap, ◌∙◌}
 use mathlib.Core.Bool.{Bool, true, false}
 use mathlib.Core.List.{List, [], ◌∷◌, ◌++◌, append_assoc}
@@ -10,20 +12,14 @@ use lib.Seq.{set_split}
 use Rattle.store.specs.Part.{put}
 use Rattle.store.specs.Pick.{pick}
 use Rattle.page.specs.declared.pool.State.{State}
-use Rattle.row.specs.declared.Stamp.{Stamp}
 use Rattle.row.specs.declared.Pointer.{Pointer}
 use Rattle.row.specs.declared.Version.{Version}
-use Rattle.mvcc.specs.declared.Current.{Current}
-use Rattle.call_answers.specs.Answer.{written, Written, of_found, Outcome, of_yes_no, of_counted, of_stated}
+use Rattle.call_answers.specs.Answer.{written, Written, Outcome}
 use Rattle.call_read.specs.Find.{find_visible_call, find_call}
 use Rattle.call_read.specs.Conflict.{conflict_call}
 use Rattle.call_read.specs.Listings.{versions_of_call}
 use Rattle.call_read.specs.Scan.{scan_visible_call}
-use Rattle.call_answers.specs.declared.Stated.{Stated}
-use Rattle.call_answers.specs.declared.Found.{Found}
-use Rattle.call_answers.specs.declared.YesNo.{YesNo}
-use Rattle.call_answers.specs.declared.Counted.{Counted}
-use Rattle.port.specs.Words.{current_of, stamp_words, pointer_words, version_words, state_words, flag_words, count_words, Called, called, given, called_list, given_list}
+use Rattle.port.specs.Words.{stamp_words, pointer_words, version_words, state_words, flag_words, count_words, Called, called, given, called_list, given_list}
 use Rattle.mvcc.specs.Snapshot.{Statuses, snapshot}
 use Rattle.store.proofs.PutLaws.{put_def, put-after_at, length-put}
 
@@ -44,37 +40,34 @@ two-words i j v w s e h = rw (set-put i v s (omega arith)) (set_after i j w (v �
 three-words : (i j k u v w : ℕ) (s : List ℕ) → j ≡ i + 1 → k ≡ i + 2 → k < length s → set (set (set s i u) j v) k w ≡ put i (u ∷ v ∷ w ∷ []) s
 three-words i j k u v w s e f h = rw (two-words i j u v s e (omega arith)) (set_after i k w (u ∷ v ∷ []) s f h)
 
--- ---- a current transaction
+-- ---- a value that is there or not, by a flag
 
-module _ {b : Bool} (tx : ℕ) where
-  pub current_some : b ≡ true → Current.Tx tx ≡ current_of b tx
-  current_some e = rw e
-
-  pub current-none : b ≡ false → Current.Nobody ≡ current_of b tx
-  current-none e = rw e
+pub then_is : {A : Type 0} (b : Bool) (x : A) → then_some b x ≡ pick b (Some x) None
+then_is true x = refl
+then_is false x = refl
 
 -- ---- a version
 
 module _ (s : List ℕ) (room : length s ≡ 8) where
-  pub stamp-absent : {x : Stamp} → x ≡ Stamp.Absent → set (set s 1 0) 2 0 ≡ put 1 (stamp_words x) s
+  pub stamp-absent : {x : Option ℕ} → x ≡ None → set (set s 1 0) 2 0 ≡ put 1 (stamp_words x) s
   stamp-absent e = two-words 1 2 0 0 s refl (omega arith) ∙ rw e
 
-  pub stamp_by : {x : Stamp} {tx : ℕ} → x ≡ Stamp.By tx → set (set s 1 1) 2 tx ≡ put 1 (stamp_words x) s
+  pub stamp_by : {x : Option ℕ} {tx : ℕ} → x ≡ Some tx → set (set s 1 1) 2 tx ≡ put 1 (stamp_words x) s
   stamp_by {x} {tx} e = two-words 1 2 1 tx s refl (omega arith) ∙ rw e
 
-  pub pointer-absent : {x : Pointer} → x ≡ Pointer.Absent → set (set (set s 3 0) 4 0) 5 0 ≡ put 3 (pointer_words x) s
+  pub pointer-absent : {x : Option Pointer} → x ≡ None → set (set (set s 3 0) 4 0) 5 0 ≡ put 3 (pointer_words x) s
   pointer-absent e = three-words 3 4 5 0 0 0 s refl refl (omega arith) ∙ rw e
 
-  pub pointer_at : {x : Pointer} {p t : ℕ} → x ≡ Pointer.At p t → set (set (set s 3 1) 4 p) 5 t ≡ put 3 (pointer_words x) s
-  pointer_at {x} {p} {t} e = three-words 3 4 5 1 p t s refl refl (omega arith) ∙ rw e
+  pub pointer_at : {x : Option Pointer} {p : Pointer} → x ≡ Some p → set (set (set s 3 1) 4 p.page) 5 p.slot ≡ put 3 (pointer_words x) s
+  pointer_at {x} {p} e = three-words 3 4 5 1 p.page p.slot s refl refl (omega arith) ∙ rw e
 
-length-stamp : (x : Stamp) → length (stamp_words x) ≡ 2
-length-stamp Stamp.Absent = refl
-length-stamp (Stamp.By t) = refl
+length-stamp : (x : Option ℕ) → length (stamp_words x) ≡ 2
+length-stamp None = refl
+length-stamp (Some t) = refl
 
-length-pointer : (x : Pointer) → length (pointer_words x) ≡ 3
-length-pointer Pointer.Absent = refl
-length-pointer (Pointer.At p t) = refl
+length-pointer : (x : Option Pointer) → length (pointer_words x) ≡ 3
+length-pointer None = refl
+length-pointer (Some p) = refl
 
 pub version_words_lem : (v : Version) (s : List ℕ) {s₁ s₂ : List ℕ} → length s ≡ 8 → s₁ ≡ put 1 (stamp_words v.stamp) (set s 0 v.creator)
     → s₂ ≡ put 3 (pointer_words v.pointer) s₁ → set (set s₂ 6 v.start) 7 v.len ≡ put 0 (version_words v) s
@@ -94,39 +87,18 @@ version_words_lem v s {s₁} {s₂} h e q =
     let a : ((C ++ S) ++ P) ++ D ≡ C ++ (S ++ (P ++ D)) = simp append_assoc in
     two-words 6 7 v.start v.len s₂ refl (omega arith) ∙ f₃ ∙ ap (λ (x : List ℕ). put 0 x s) a
 
+-- ---- other values
+
+pub flag_put : (s : List ℕ) (b : Bool) (w : ℕ) → length s ≡ 8 → w ≡ pick b 1 0 → set s 0 w ≡ put 0 (flag_words b) s
+flag_put s b w h q = rw (q, set-put 0 (pick b 1 0) s (omega arith))
+
+pub state_put : (s : List ℕ) (st : State) → length s ≡ 8 → set (set s 0 st.root) 1 st.used ≡ put 0 (state_words st) s
+state_put s st h = two-words 0 1 st.root st.used s refl (omega arith)
+
+pub count_put : (s : List ℕ) (n : ℕ) → length s ≡ 8 → set s 0 n ≡ put 0 (count_words n) s
+count_put s n h = set-put 0 n s (omega arith)
+
 -- ---- what a call gives
-
-module _ {b : Bool} {w : ℕ} where
-  pub flag_yes : b ≡ true → w ≡ 1 → w ≡ pick b 1 0
-  flag_yes e q = q ∙ rw e
-
-  pub flag_no : b ≡ false → w ≡ 0 → w ≡ pick b 1 0
-  flag_no e q = q ∙ rw e
-
-module _ (s : List ℕ) where
-  pub found_refused : {r : Found} {n : ℕ} → r ≡ Found.Refused n → called n s ≡ given version_words (of_found r) s
-  found_refused e = rw e
-
-  pub found_done : {r : Found} {v : Version} {t : List ℕ} → r ≡ Found.Done v → t ≡ put 0 (version_words v) s → called 0 t ≡ given version_words (of_found r) s
-  found_done e q = rw (e, q)
-
-  pub told-refused : {r : YesNo} {n : ℕ} → r ≡ YesNo.Refused n → called n s ≡ given flag_words (of_yes_no r) s
-  told-refused e = rw e
-
-  pub told-done : {r : YesNo} {b : Bool} (w : ℕ) → length s ≡ 8 → r ≡ YesNo.Done b → w ≡ pick b 1 0 → called 0 (set s 0 w) ≡ given flag_words (of_yes_no r) s
-  told-done {r} {b} w h e q = rw (e, q, set-put 0 (pick b 1 0) s (omega arith))
-
-  pub stated_refused : {r : Stated} {n : ℕ} → r ≡ Stated.Refused n → called n s ≡ given state_words (of_stated r) s
-  stated_refused e = rw e
-
-  pub stated_done : {r : Stated} {st : State} → length s ≡ 8 → r ≡ Stated.Done st → called 0 (set (set s 0 st.root) 1 st.used) ≡ given state_words (of_stated r) s
-  stated_done {r} {st} h e = rw (e, two-words 0 1 st.root st.used s refl (omega arith))
-
-  pub counted_refused : {r : Counted} {n : ℕ} → r ≡ Counted.Refused n → called n s ≡ given count_words (of_counted r) s
-  counted_refused e = rw e
-
-  pub counted_done : {r : Counted} {n : ℕ} → length s ≡ 8 → r ≡ Counted.Done n → called 0 (set s 0 n) ≡ given count_words (of_counted r) s
-  counted_done {r} {n} h e = rw (e, set-put 0 n s (omega arith))
 
 -- the outcome that was given is the outcome of the definition
 pub passed : {A : Type 0} (w : A → List ℕ) {o p : Outcome A} {x : Called} (old : List ℕ) → x ≡ given w o old → o ≡ p → x ≡ given w p old
@@ -139,7 +111,7 @@ passed_list {o} {w} {n} {t} {out} old e q = ap (λ (x : Called). called_list x.n
 
 -- ---- a call asked with an equal key and an equal current transaction
 
-module _ (s : List ℕ) (st : State) {k l : ℕ} {x y : Current} (key : k ≡ l) (cur : x ≡ y) where
+module _ (s : List ℕ) (st : State) {k l : ℕ} {x y : Option ℕ} (key : k ≡ l) (cur : x ≡ y) where
   pub visible_asked : (xmax : ℕ) (active : List ℕ) (ss : Statuses) → find_visible_call s st k (snapshot xmax active x) ss ≡ find_visible_call s st l (snapshot xmax active y) ss
   visible_asked xmax active ss = rw (key, cur)
 
@@ -153,6 +125,6 @@ module _ (s : List ℕ) (st : State) (out : List ℕ) where
   pub versions_asked : {k l : ℕ} → k ≡ l → versions_of_call s st k out ≡ versions_of_call s st l out
   versions_asked key = rw key
 
-  pub scan_asked : {x y : Current} (xmax : ℕ) (active : List ℕ) (ss : Statuses) → x ≡ y
+  pub scan_asked : {x y : Option ℕ} (xmax : ℕ) (active : List ℕ) (ss : Statuses) → x ≡ y
       → scan_visible_call s st (snapshot xmax active x) ss out ≡ scan_visible_call s st (snapshot xmax active y) ss out
   scan_asked xmax active ss cur = rw cur

@@ -1,37 +1,35 @@
 -- How an answer leaves the port (document 01, section 6): its number comes back, and what Done gives stands in words at the
 -- start of a lent array of eight. A refusal leaves the array as it was.
-use Rattle.std.specs.Prelude.{Bool, List, [], ◌∷◌, ◌++◌, ℕ}
+use Rattle.std.specs.Prelude.{Option, Some, None, Bool, List, [], ◌∷◌, ◌++◌, ℕ}
 use Rattle.store.specs.Part.{put}
 use Rattle.store.specs.Pick.{pick}
 use Rattle.page.specs.declared.pool.State.{State}
-use Rattle.row.specs.declared.Stamp.{Stamp}
 use Rattle.row.specs.declared.Pointer.{Pointer}
 use Rattle.row.specs.declared.Version.{Version}
-use Rattle.mvcc.specs.declared.Current.{Current}
 use Rattle.call_answers.specs.Answer.{Written, Ended, Outcome, nothing, value, Value}
 
 -- a state goes in as two numbers, a current transaction as a flag and a number
 abbrev pub state_of : (root used : ℕ) → State
 state_of root used = record { root = root; used = used }
 
-abbrev pub current_of : Bool → ℕ → Current
-current_of has tx = pick has (Current.Tx tx) Current.Nobody
+abbrev pub current_of : Bool → ℕ → Option ℕ
+current_of has tx = pick has (Some tx) None
 
 -- and so do a stamp and a pointer
-abbrev pub stamp_of : Bool → ℕ → Stamp
-stamp_of has tx = pick has (Stamp.By tx) Stamp.Absent
+abbrev pub stamp_of : Bool → ℕ → Option ℕ
+stamp_of has tx = pick has (Some tx) None
 
-abbrev pub pointer_of : Bool → (page slot : ℕ) → Pointer
-pointer_of has p t = pick has (Pointer.At p t) Pointer.Absent
+abbrev pub pointer_of : Bool → (page slot : ℕ) → Option Pointer
+pointer_of has p t = pick has (Some (record { page = p; slot = t })) None
 
 -- a stamp and a pointer begin with 1, or are all 0
-abbrev pub stamp_words : Stamp → List ℕ
-stamp_words Stamp.Absent = 0 ∷ 0 ∷ []
-stamp_words (Stamp.By t) = 1 ∷ t ∷ []
+abbrev pub stamp_words : Option ℕ → List ℕ
+stamp_words None = 0 ∷ 0 ∷ []
+stamp_words (Some t) = 1 ∷ t ∷ []
 
-abbrev pub pointer_words : Pointer → List ℕ
-pointer_words Pointer.Absent = 0 ∷ 0 ∷ 0 ∷ []
-pointer_words (Pointer.At p t) = 1 ∷ p ∷ t ∷ []
+abbrev pub pointer_words : Option Pointer → List ℕ
+pointer_words None = 0 ∷ 0 ∷ 0 ∷ []
+pointer_words (Some p) = 1 ∷ p.page ∷ p.slot ∷ []
 
 -- creator, stamp, pointer, where the data starts in the pool and its length
 abbrev pub version_words : Version → List ℕ

@@ -10,28 +10,10 @@ ghost use Rattle.call_clean.specs.Vacuum.{vacuum_call};
 ghost use Rattle.port.specs.Words.{state_of, current_of, stamp_of, pointer_of, state_words, count_words, called_pool, given_pool};
 ghost use Rattle.mvcc.specs.Snapshot.{snapshot, statuses};
 
-use crate::current_of;
-use call_answers::{Counted, Stated};
+use crate::give;
+use mvcc::{Snapshot, Statuses};
 use page::pool::State;
-use row::{Pointer, Stamp};
-
-fn stamp_of(has: bool, tx: u64) -> Stamp
-    ensures { result ≡ stamp_of has tx }
-{
-    if has {
-        return Stamp::By(tx);
-    }
-    Stamp::Absent
-}
-
-fn pointer_of(has: bool, page: u32, slot: u16) -> Pointer
-    ensures { result ≡ pointer_of has page slot }
-{
-    if has {
-        return Pointer::At { page, slot };
-    }
-    Pointer::Absent
-}
+use row::Pointer;
 
 // Insert: a live version of the key with data `body`; its creator is the current transaction, or 0 without one.
 // Returns 0 Done, 1 BadPool, 4 BadStatuses, 5 BadData, 2 BadTree, 6 Duplicate, 9 Undividable, 11 TooDeep or 10
@@ -54,10 +36,11 @@ pub extern "C" fn erbulonge_insert(
     ensures { called_pool result answer.new pool.new ≡ given_pool state_words (insert_call pool.old (state_of root used) (rank_of key) (current_of has_current current) (statuses ids.now states.now) body.now) answer.old }
 {
     let st = State { root, used };
-    let cur = current_of(has_current, current);
-    crate::give_stated(
+    let statuses = Statuses { ids, states };
+    let current = has_current.then_some(current);
+    give(
         answer,
-        call_insert::insert(pool, st, key, cur, ids, states, body),
+        call_insert::insert(pool, st, key, current, &statuses, body),
     )
 }
 
@@ -84,9 +67,9 @@ pub extern "C" fn erbulonge_insert_version(
     ensures { called_pool result answer.new pool.new ≡ given_pool state_words (insert_version_call pool.old (state_of root used) (rank_of key) creator (stamp_of has_deleter deleter) (pointer_of has_pointer page slot) body.now) answer.old }
 {
     let st = State { root, used };
-    let stamp = stamp_of(has_deleter, deleter);
-    let pointer = pointer_of(has_pointer, page, slot);
-    crate::give_stated(
+    let stamp = has_deleter.then_some(deleter);
+    let pointer = has_pointer.then_some(Pointer { page, slot });
+    give(
         answer,
         call_insert::insert_version(pool, st, key, creator, stamp, pointer, body),
     )
@@ -114,10 +97,15 @@ pub extern "C" fn erbulonge_mark_deleted_visible(
     ensures { called_pool result answer.new pool.new ≡ given_pool state_words (mark_call pool.old (state_of root used) (rank_of key) (snapshot xmax active.now (current_of has_current current)) (statuses ids.now states.now) deleter) answer.old }
 {
     let st = State { root, used };
-    let cur = current_of(has_current, current);
-    crate::give_stated(
+    let statuses = Statuses { ids, states };
+    let snapshot = Snapshot {
+        xmax,
+        active,
+        current: has_current.then_some(current),
+    };
+    give(
         answer,
-        call_stamp::mark_deleted_visible(pool, st, key, xmax, active, cur, ids, states, deleter),
+        call_stamp::mark_deleted_visible(pool, st, key, &snapshot, &statuses, deleter),
     )
 }
 
@@ -141,10 +129,11 @@ pub extern "C" fn erbulonge_mark_deleted(
     ensures { called_pool result answer.new pool.new ≡ given_pool state_words (mark_plain_call pool.old (state_of root used) (rank_of key) (current_of has_current current) (statuses ids.now states.now) deleter) answer.old }
 {
     let st = State { root, used };
-    let cur = current_of(has_current, current);
-    crate::give_stated(
+    let statuses = Statuses { ids, states };
+    let current = has_current.then_some(current);
+    give(
         answer,
-        call_stamp::mark_deleted(pool, st, key, cur, ids, states, deleter),
+        call_stamp::mark_deleted(pool, st, key, current, &statuses, deleter),
     )
 }
 
@@ -167,8 +156,12 @@ pub extern "C" fn erbulonge_delete(
     ensures { called_pool result answer.new pool.new ≡ given_pool state_words (delete_call pool.old (state_of root used) (rank_of key) (current_of has_current current) (statuses ids.now states.now)) answer.old }
 {
     let st = State { root, used };
-    let cur = current_of(has_current, current);
-    crate::give_stated(answer, call_stamp::delete(pool, st, key, cur, ids, states))
+    let statuses = Statuses { ids, states };
+    let current = has_current.then_some(current);
+    give(
+        answer,
+        call_stamp::delete(pool, st, key, current, &statuses),
+    )
 }
 
 // Claim: lookup, conflict test against the creator found, and the stamp of the current transaction, as one call.
@@ -193,10 +186,15 @@ pub extern "C" fn erbulonge_claim(
     ensures { called_pool result answer.new pool.new ≡ given_pool state_words (claim_call pool.old (state_of root used) (rank_of key) (snapshot xmax active.now (current_of has_current current)) (statuses ids.now states.now)) answer.old }
 {
     let st = State { root, used };
-    let cur = current_of(has_current, current);
-    crate::give_stated(
+    let statuses = Statuses { ids, states };
+    let snapshot = Snapshot {
+        xmax,
+        active,
+        current: has_current.then_some(current),
+    };
+    give(
         answer,
-        call_stamp::claim(pool, st, key, xmax, active, cur, ids, states),
+        call_stamp::claim(pool, st, key, &snapshot, &statuses),
     )
 }
 
@@ -214,7 +212,7 @@ pub extern "C" fn erbulonge_remove_all_versions(
     ensures { called_pool result answer.new pool.new ≡ given_pool count_words (remove_call pool.old (state_of root used) (rank_of key)) answer.old }
 {
     let st = State { root, used };
-    crate::give_counted(answer, call_clean::remove_all_versions(pool, st, key))
+    give(answer, call_clean::remove_all_versions(pool, st, key))
 }
 
 // Vacuum: drops the versions whose creator is aborted, or whose deleter is committed and below `bound`, and
@@ -234,8 +232,9 @@ pub extern "C" fn erbulonge_vacuum_deleted_versions(
     ensures { called_pool result answer.new pool.new ≡ given_pool count_words (vacuum_call pool.old (state_of root used) (statuses ids.now states.now) bound) answer.old }
 {
     let st = State { root, used };
-    crate::give_counted(
+    let statuses = Statuses { ids, states };
+    give(
         answer,
-        call_clean::vacuum_deleted_versions(pool, st, ids, states, bound),
+        call_clean::vacuum_deleted_versions(pool, st, &statuses, bound),
     )
 }

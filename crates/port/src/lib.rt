@@ -12,10 +12,10 @@
 
 pub mod change;
 
-ghost use Rattle.std.specs.Prelude.{◌≡◌, length};
+ghost use Rattle.std.specs.Prelude.{◌≡◌, List, ℕ, length};
 ghost use Rattle.store.specs.Part.{put};
 ghost use Rattle.page.specs.Key.{rank_of};
-ghost use Rattle.call_answers.specs.Answer.{of_found, of_yes_no, of_counted, of_stated};
+ghost use Rattle.call_answers.specs.Answer.{outcome_of};
 ghost use Rattle.call_read.specs.Check.{check_call};
 ghost use Rattle.call_read.specs.Conflict.{conflict_call};
 ghost use Rattle.call_read.specs.Create.{create_call};
@@ -26,115 +26,104 @@ ghost use Rattle.call_read.specs.Scan.{scan_visible_call};
 ghost use Rattle.port.specs.Words.{called_pool, given_pool, state_of, current_of, stamp_words, pointer_words, version_words, state_words, flag_words, count_words, called, given, called_list, given_list};
 ghost use Rattle.mvcc.specs.Snapshot.{snapshot, statuses};
 
-use call_answers::{Counted, Found, Stated, YesNo};
-use mvcc::Current;
+use call_answers::Refusal;
+use mvcc::{Snapshot, Statuses};
 use page::pool::State;
-use row::{Pointer, Stamp, Version};
+use row::{Pointer, Version};
 
-fn current_of(has: bool, tx: u64) -> Current
-    ensures { result ≡ current_of has tx }
-{
-    if has {
-        return Current::Tx(tx);
-    }
-    Current::Nobody
+// What Done gives, as words from the start of the lent array.
+pub(crate) trait Words {
+    ghost words: { Self → List ℕ };
+
+    fn put(self, answer: &mut [u64])
+        requires { length answer.old ≡ 8 }
+        ensures { answer.new ≡ put 0 (words self) answer.old };
 }
 
-fn give_stamp(answer: &mut [u64], s: Stamp)
+// Creator, stamp, pointer, and where the data starts in the pool and its length.
+impl Words for Version {
+    ghost words = { version_words };
+
+    fn put(self, answer: &mut [u64]) {
+        answer[0] = self.creator;
+        put_stamp(answer, self.stamp);
+        put_pointer(answer, self.pointer);
+        answer[6] = self.start as u64;
+        answer[7] = self.len as u64;
+    }
+}
+
+// 1 for yes, 0 for no.
+impl Words for bool {
+    ghost words = { flag_words };
+
+    fn put(self, answer: &mut [u64]) {
+        answer[0] = u64::from(self);
+    }
+}
+
+// Root and pages in use.
+impl Words for State {
+    ghost words = { state_words };
+
+    fn put(self, answer: &mut [u64]) {
+        answer[0] = u64::from(self.root);
+        answer[1] = u64::from(self.used);
+    }
+}
+
+// A count of bytes or versions.
+impl Words for usize {
+    ghost words = { count_words };
+
+    fn put(self, answer: &mut [u64]) {
+        answer[0] = self as u64;
+    }
+}
+
+fn put_stamp(answer: &mut [u64], stamp: Option<u64>)
     requires { length answer.old ≡ 8 }
-    ensures { answer.new ≡ put 1 (stamp_words s) answer.old }
+    ensures { answer.new ≡ put 1 (stamp_words stamp) answer.old }
 {
-    match s {
-        Stamp::Absent => {
+    match stamp {
+        None => {
             answer[1] = 0;
             answer[2] = 0;
         }
-        Stamp::By(tx) => {
+        Some(tx) => {
             answer[1] = 1;
             answer[2] = tx;
         }
     }
 }
 
-fn give_pointer(answer: &mut [u64], p: Pointer)
+fn put_pointer(answer: &mut [u64], pointer: Option<Pointer>)
     requires { length answer.old ≡ 8 }
-    ensures { answer.new ≡ put 3 (pointer_words p) answer.old }
+    ensures { answer.new ≡ put 3 (pointer_words pointer) answer.old }
 {
-    match p {
-        Pointer::Absent => {
+    match pointer {
+        None => {
             answer[3] = 0;
             answer[4] = 0;
             answer[5] = 0;
         }
-        Pointer::At { page, slot } => {
+        Some(p) => {
             answer[3] = 1;
-            answer[4] = page as u64;
-            answer[5] = slot as u64;
+            answer[4] = u64::from(p.page);
+            answer[5] = u64::from(p.slot);
         }
     }
 }
 
-fn give_version(answer: &mut [u64], v: Version)
+// The answer's number; what Done gives is put into the array, which a refusal leaves as it was.
+pub(crate) fn give<T: Words>(answer: &mut [u64], told: Result<T, Refusal>) -> u8
     requires { length answer.old ≡ 8 }
-    ensures { answer.new ≡ put 0 (version_words v) answer.old }
+    ensures { called result answer.new ≡ given T.words (outcome_of told) answer.old }
 {
-    let stamp = v.stamp;
-    let pointer = v.pointer;
-    answer[0] = v.creator;
-    give_stamp(answer, stamp);
-    give_pointer(answer, pointer);
-    answer[6] = v.start as u64;
-    answer[7] = v.len as u64;
-}
-
-fn give_found(answer: &mut [u64], r: Found) -> u8
-    requires { length answer.old ≡ 8 }
-    ensures { called result answer.new ≡ given version_words (of_found r) answer.old }
-{
-    match r {
-        Found::Refused(n) => n,
-        Found::Done(v) => {
-            give_version(answer, v);
-            0
-        }
-    }
-}
-
-fn give_yes_no(answer: &mut [u64], r: YesNo) -> u8
-    requires { length answer.old ≡ 8 }
-    ensures { called result answer.new ≡ given flag_words (of_yes_no r) answer.old }
-{
-    match r {
-        YesNo::Refused(n) => n,
-        YesNo::Done(yes) => {
-            answer[0] = if yes { 1 } else { 0 };
-            0
-        }
-    }
-}
-
-pub(crate) fn give_stated(answer: &mut [u64], r: Stated) -> u8
-    requires { length answer.old ≡ 8 }
-    ensures { called result answer.new ≡ given state_words (of_stated r) answer.old }
-{
-    match r {
-        Stated::Refused(n) => n,
-        Stated::Done(st) => {
-            answer[0] = st.root as u64;
-            answer[1] = st.used as u64;
-            0
-        }
-    }
-}
-
-pub(crate) fn give_counted(answer: &mut [u64], r: Counted) -> u8
-    requires { length answer.old ≡ 8 }
-    ensures { called result answer.new ≡ given count_words (of_counted r) answer.old }
-{
-    match r {
-        Counted::Refused(n) => n,
-        Counted::Done(len) => {
-            answer[0] = len as u64;
+    match told {
+        Err(refusal) => u8::from(refusal),
+        Ok(x) => {
+            x.put(answer);
             0
         }
     }
@@ -152,7 +141,7 @@ pub extern "C" fn erbulonge_create(
 ) -> u8
     ensures { called_pool result answer.new pool.new ≡ given_pool state_words (create_call pool.old (state_of root used)) answer.old }
 {
-    give_stated(answer, call_read::create(pool, State { root, used }))
+    give(answer, call_read::create(pool, State { root, used }))
 }
 
 // Check: whether the tree is well-formed; it never says BadTree.
@@ -162,7 +151,7 @@ pub extern "C" fn erbulonge_create(
 pub extern "C" fn erbulonge_check(pool: &[u8], root: u32, used: u32, answer: &mut [u64; 8]) -> u8
     ensures { called result answer.new ≡ given flag_words (check_call pool.now (state_of root used)) answer.old }
 {
-    give_yes_no(answer, call_read::check(pool, State { root, used }))
+    give(answer, call_read::check(pool, State { root, used }))
 }
 
 // Lookup: of the key's versions that the snapshot sees the one with the largest creator, on a tie the last.
@@ -187,10 +176,15 @@ pub extern "C" fn erbulonge_find_visible(
     ensures { called result answer.new ≡ given version_words (find_visible_call pool.now (state_of root used) (rank_of key) (snapshot xmax active.now (current_of has_current current)) (statuses ids.now states.now)) answer.old }
 {
     let st = State { root, used };
-    let cur = current_of(has_current, current);
-    give_found(
+    let statuses = Statuses { ids, states };
+    let snapshot = Snapshot {
+        xmax,
+        active,
+        current: has_current.then_some(current),
+    };
+    give(
         answer,
-        call_read::find_visible(pool, st, key, xmax, active, cur, ids, states),
+        call_read::find_visible(pool, st, key, &snapshot, &statuses),
     )
 }
 
@@ -212,8 +206,9 @@ pub extern "C" fn erbulonge_find(
     ensures { called result answer.new ≡ given version_words (find_call pool.now (state_of root used) (rank_of key) (current_of has_current current) (statuses ids.now states.now)) answer.old }
 {
     let st = State { root, used };
-    let cur = current_of(has_current, current);
-    give_found(answer, call_read::find(pool, st, key, cur, ids, states))
+    let statuses = Statuses { ids, states };
+    let current = has_current.then_some(current);
+    give(answer, call_read::find(pool, st, key, current, &statuses))
 }
 
 // Conflict: whether some version of the key conflicts with the creator number `seen`. Statuses play no part.
@@ -235,10 +230,14 @@ pub extern "C" fn erbulonge_has_write_conflict(
     ensures { called result answer.new ≡ given flag_words (conflict_call pool.now (state_of root used) (rank_of key) (snapshot xmax active.now (current_of has_current current)) seen) answer.old }
 {
     let st = State { root, used };
-    let cur = current_of(has_current, current);
-    give_yes_no(
+    let snapshot = Snapshot {
+        xmax,
+        active,
+        current: has_current.then_some(current),
+    };
+    give(
         answer,
-        call_read::has_write_conflict(pool, st, key, xmax, active, cur, seen),
+        call_read::has_write_conflict(pool, st, key, &snapshot, seen),
     )
 }
 
@@ -257,7 +256,7 @@ pub extern "C" fn erbulonge_versions_of(
     ensures { called_list result answer.new out.new ≡ given_list (versions_of_call pool.now (state_of root used) (rank_of key) out.old) answer.old }
 {
     let st = State { root, used };
-    give_counted(answer, call_read::versions_of(pool, st, key, out))
+    give(answer, call_read::versions_of(pool, st, key, out))
 }
 
 // All versions of the tree in chain order, in records as erbulonge_versions_of writes them.
@@ -274,7 +273,7 @@ pub extern "C" fn erbulonge_all_versions(
     ensures { called_list result answer.new out.new ≡ given_list (all_versions_call pool.now (state_of root used) out.old) answer.old }
 {
     let st = State { root, used };
-    give_counted(answer, call_read::all_versions(pool, st, out))
+    give(answer, call_read::all_versions(pool, st, out))
 }
 
 // What the snapshot sees, rising by key, one version a key: the largest creator, on a tie the first. The records
@@ -299,10 +298,15 @@ pub extern "C" fn erbulonge_scan_visible(
     ensures { called_list result answer.new out.new ≡ given_list (scan_visible_call pool.now (state_of root used) (snapshot xmax active.now (current_of has_current current)) (statuses ids.now states.now) out.old) answer.old }
 {
     let st = State { root, used };
-    let cur = current_of(has_current, current);
-    give_counted(
+    let statuses = Statuses { ids, states };
+    let snapshot = Snapshot {
+        xmax,
+        active,
+        current: has_current.then_some(current),
+    };
+    give(
         answer,
-        call_read::scan_visible(pool, st, xmax, active, cur, ids, states, out),
+        call_read::scan_visible(pool, st, &snapshot, &statuses, out),
     )
 }
 
@@ -321,5 +325,5 @@ pub extern "C" fn erbulonge_page_numbers(
     ensures { called_list result answer.new out.new ≡ given_list (page_numbers_call pool.now (state_of root used) out.old) answer.old }
 {
     let st = State { root, used };
-    give_counted(answer, call_read::page_numbers(pool, st, out))
+    give(answer, call_read::page_numbers(pool, st, out))
 }

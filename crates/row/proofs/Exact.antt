@@ -1,4 +1,5 @@
 -- The reader accepts exactly what the writer writes: proofs of the statements of specs/Exact. Assumes nothing.
+use Rattle.std.proofs.Common.{Option, Some, None, Ok, Err}
 use mathlib.Core.Path.{◌≡◌, refl, sym, ap, ap₂, ◌∙◌, subst}
 use mathlib.Core.Bool.{Bool, true, false, not, ◌&&◌, ◌||◌}
 use mathlib.Core.List.{List, [], ◌∷◌, ◌++◌, append_assoc}
@@ -11,22 +12,21 @@ use Rattle.store.specs.Pick.{pick}
 use Rattle.store.specs.Le.{AreBytes, le_at, bytes_le}
 use Rattle.store.specs.Part.{part}
 use Rattle.page.specs.Key.{flip, key_bytes, rank_at}
-use Rattle.row.specs.Read.{stamp_size, pointer_size, stamp_in, pointer_in, pointer_place, data_place, flag_bad, head_fault, data_fault, or_cell, cell_in, payload_at, cell_at}
+use Rattle.row.specs.Read.{stamp_size, pointer_size, stamp_in, pointer_in, pointer_place, data_place, flag_bad, head_fault, data_fault, or_fault, cell_in, payload_at, cell_at}
 use Rattle.row.specs.Steps.Read.{head_at}
 use Rattle.row.specs.Write.{stamp_bytes, pointer_bytes, stamp_len, pointer_len, cell_size, head_bytes, cell_bytes, record_bytes}
 use Rattle.row.specs.Exact.{StampFits, PointerFits, WrittenIsRead, CellIs, ReadIsWritten, WorkedRecord}
-use Rattle.row.specs.declared.Stamp.{Stamp}
 use Rattle.row.specs.declared.Pointer.{Pointer}
 use Rattle.row.specs.declared.Cell.{Cell}
-use Rattle.row.specs.declared.read.CellRead.{CellRead}
+use Rattle.row.specs.declared.CellFault.{CellFault}
 use Rattle.store.proofs.LeLaws.{length-bytes_le, one_byte, le_at_lt}
 use Rattle.store.proofs.PartLaws.{length_part, part_add, part_peel, part_bytes, le_at-first}
 use Rattle.page.proofs.KeyLaws.{flip-flip, flip_less}
-use Rattle.row.proofs.Reading.{pick_zero, places, stamp-size-none, stamp-size_by, pointer-size-none, pointer-size_at, stamp-none, stamp_by, pointer_none, pointer_at, pointer-place, data_place_lem, head_got, head-is, payload_cell, cell-whole, data_within, stamp-inside, pointer-inside}
+use Rattle.row.proofs.Reading.{pick_none, or_fault_ok, places, stamp-size-none, stamp-size_by, pointer-size-none, pointer-size_at, stamp-none, stamp_by, pointer_none, pointer_at, pointer-place, data_place_lem, head_got, head-is, payload_cell, cell-whole, data_within, stamp-inside, pointer-inside}
 use Rattle.row.proofs.Writing.{stamp_len_lem, pointer_len_lem, length-stamp}
 
 -- the bytes of a cell, field after field
-pub cell_flat : (key creator : ℕ) (st : Stamp) (pt : Pointer) (body : List ℕ)
+pub cell_flat : (key creator : ℕ) (st : Option ℕ) (pt : Option Pointer) (body : List ℕ)
     → cell_bytes key creator st pt body
     ≡ key_bytes key ++ (bytes_le 4 (9 + stamp_len st + pointer_len pt + length body) ++ (bytes_le 1 129 ++ (bytes_le 8 creator ++ (stamp_bytes st ++ (pointer_bytes pt ++ body)))))
 unfolding cell_bytes head_bytes
@@ -35,12 +35,12 @@ cell_flat key creator st pt body = rw (one_byte 129 (omega arith)) (simp append_
 -- ---- what was written is read
 
 -- what the reader finds where a stamp stands, and where a pointer stands
-pub record StampThere (s : List ℕ) (a : ℕ) (st : Stamp) : Type 0 where
+pub record StampThere (s : List ℕ) (a : ℕ) (st : Option ℕ) : Type 0 where
   pub low : le_at 1 s a ≤ 1
   pub same : stamp_in s a ≡ st
   pub size : stamp_size (le_at 1 s a) ≡ stamp_len st
 
-pub record PointerThere (s : List ℕ) (a : ℕ) (pt : Pointer) : Type 0 where
+pub record PointerThere (s : List ℕ) (a : ℕ) (pt : Option Pointer) : Type 0 where
   pub low : le_at 1 s a ≤ 1
   pub same : pointer_in s a ≡ pt
   pub size : pointer_size (le_at 1 s a) ≡ pointer_len pt
@@ -52,34 +52,34 @@ first_flag a m x t s h e =
     (le_at-first 1 a (1 + m) x t s l h (rw (one_byte x h) e), part_peel a 1 m (x ∷ []) t s refl e)
 
 module _ (s : List ℕ) (a m : ℕ) where
-  stamp-there : (st : Stamp) (t : List ℕ) → StampFits st → part a (stamp_len st + m) s ≡ stamp_bytes st ++ t → StampThere s a st
-  stamp-there Stamp.Absent t f e =
+  stamp-there : (st : Option ℕ) (t : List ℕ) → StampFits st → part a (stamp_len st + m) s ≡ stamp_bytes st ++ t → StampThere s a st
+  stamp-there None t f e =
       let z = (first_flag a m 0 t s (omega arith) e).0 in
       record { low = omega arith; same = sym (stamp-none s a z); size = sym (stamp-size-none _ z) }
-  stamp-there (Stamp.By x) t f e =
+  stamp-there (Some x) t f e =
       let n : 9 + m ≡ 1 + (8 + m) = omega arith in
       let o = first_flag a (8 + m) 1 (bytes_le 8 x ++ t) s (omega arith) (rw n at e) in
       let z = o.0 in
       let v : le_at 8 s (a + 1) ≡ x = le_at-first 8 (a + 1) (8 + m) x t s (omega arith) f o.1 in
       record { low = omega arith; same = sym (stamp_by s a (λ q. omega arith) (sym v)); size = sym (stamp-size_by _ (λ q. omega arith)) }
 
-  pointer-there : (pt : Pointer) (t : List ℕ) → PointerFits pt → part a (pointer_len pt + m) s ≡ pointer_bytes pt ++ t → PointerThere s a pt
-  pointer-there Pointer.Absent t f e =
+  pointer-there : (pt : Option Pointer) (t : List ℕ) → PointerFits pt → part a (pointer_len pt + m) s ≡ pointer_bytes pt ++ t → PointerThere s a pt
+  pointer-there None t f e =
       let z = (first_flag a m 0 t s (omega arith) e).0 in
       record { low = omega arith; same = sym (pointer_none s a z); size = sym (pointer-size-none _ z) }
-  pointer-there (Pointer.At p x) t f e =
+  pointer-there (Some p) t f e =
       let n : 7 + m ≡ 1 + (4 + (2 + m)) = omega arith in
-      let q : part a (1 + (4 + (2 + m))) s ≡ 1 ∷ (bytes_le 4 p ++ (bytes_le 2 x ++ t)) = (rw n at e) ∙ simp append_assoc in
-      let o = first_flag a (4 + (2 + m)) 1 (bytes_le 4 p ++ (bytes_le 2 x ++ t)) s (omega arith) q in
+      let q : part a (1 + (4 + (2 + m))) s ≡ 1 ∷ (bytes_le 4 p.page ++ (bytes_le 2 p.slot ++ t)) = (rw n at e) ∙ simp append_assoc in
+      let o = first_flag a (4 + (2 + m)) 1 (bytes_le 4 p.page ++ (bytes_le 2 p.slot ++ t)) s (omega arith) q in
       let z = o.0 in
-      let v : le_at 4 s (a + 1) ≡ p = le_at-first 4 (a + 1) (4 + (2 + m)) p (bytes_le 2 x ++ t) s (omega arith) f.0 o.1 in
+      let v : le_at 4 s (a + 1) ≡ p.page = le_at-first 4 (a + 1) (4 + (2 + m)) p.page (bytes_le 2 p.slot ++ t) s (omega arith) f.0 o.1 in
       let i : a + 1 + 4 ≡ a + 5 = omega arith in
-      let r : part (a + 5) (2 + m) s ≡ bytes_le 2 x ++ t = rw i at (part_peel (a + 1) 4 (2 + m) (bytes_le 4 p) (bytes_le 2 x ++ t) s (length-bytes_le 4 p) o.1) in
-      let w : le_at 2 s (a + 5) ≡ x = le_at-first 2 (a + 5) (2 + m) x t s (omega arith) f.1 r in
+      let r : part (a + 5) (2 + m) s ≡ bytes_le 2 p.slot ++ t = rw i at (part_peel (a + 1) 4 (2 + m) (bytes_le 4 p.page) (bytes_le 2 p.slot ++ t) s (length-bytes_le 4 p.page) o.1) in
+      let w : le_at 2 s (a + 5) ≡ p.slot = le_at-first 2 (a + 5) (2 + m) p.slot t s (omega arith) f.1 r in
       record { low = omega arith; same = sym (pointer_at s a (λ u. omega arith) (sym v) (sym w)); size = sym (pointer-size_at _ (λ u. omega arith)) }
 
 -- the fields of a cell that stands at `at`
-pub record FieldsThere (s : List ℕ) (at key creator : ℕ) (st : Stamp) (pt : Pointer) (n : ℕ) : Type 0 where
+pub record FieldsThere (s : List ℕ) (at key creator : ℕ) (st : Option ℕ) (pt : Option Pointer) (n : ℕ) : Type 0 where
   pub key-there : le_at 4 s at ≡ flip key
   pub length-there : le_at 4 s (at + 4) ≡ 9 + stamp_len st + pointer_len pt + n
   pub format_there : le_at 1 s (at + 8) ≡ 129
@@ -87,7 +87,7 @@ pub record FieldsThere (s : List ℕ) (at key creator : ℕ) (st : Stamp) (pt : 
   pub stamp-here : StampThere s (at + 8 + 9) st
   pub pointer-here : PointerThere s (at + 8 + 9 + stamp_len st) pt
 
-fields_there : (s : List ℕ) (at key creator : ℕ) (st : Stamp) (pt : Pointer) (body : List ℕ) → key < 4294967296 → creator < 18446744073709551616
+fields_there : (s : List ℕ) (at key creator : ℕ) (st : Option ℕ) (pt : Option Pointer) (body : List ℕ) → key < 4294967296 → creator < 18446744073709551616
     → StampFits st → PointerFits pt → length body ≤ 4051 → part at (cell_size st pt (length body)) s ≡ cell_bytes key creator st pt body
     → FieldsThere s at key creator st pt (length body)
 fields_there s at key creator st pt body fk fc fs fp fb e =
@@ -145,28 +145,24 @@ written-is_read s at key creator st pt body fk fc fs fp fb inside e =
 -- what an accepted cell says of the bytes
 record Accepted (s : List ℕ) (at : ℕ) (c : Cell) : Type 0 where
   inside : at + 8 + le_at 4 s (at + 4) ≤ length s
-  head_sound : head_fault s (at + 8) (at + 8 + le_at 4 s (at + 4)) ≡ 0
-  data_sound : data_fault s (at + 8) (at + 8 + le_at 4 s (at + 4)) false ≡ 0
+  head_sound : head_fault s (at + 8) (at + 8 + le_at 4 s (at + 4)) ≡ None
+  data_sound : data_fault s (at + 8) (at + 8 + le_at 4 s (at + 4)) false ≡ None
   same : cell_in s at (at + 8 + le_at 4 s (at + 4)) ≡ c
 
-or_cell_got : (f : ℕ) (r : CellRead) {c : Cell} → or_cell f r ≡ CellRead.Got c → (f ≡ 0) × (r ≡ CellRead.Got c)
-or_cell_got zero r e = (refl, e)
-or_cell_got (suc f) r e = absurd (let z : ◌≡◌ {A = ℕ} 0 1 = cc in omega arith)
-
-past_bad : (s : List ℕ) (at m : ℕ) {c : Cell} → payload_at s at m true ≡ CellRead.Got c → ⊥
+past_bad : (s : List ℕ) (at m : ℕ) {c : Cell} → payload_at s at m true ≡ Ok c → ⊥
 unfolding payload_at data_fault
-past_bad s at m e = let z : ◌≡◌ {A = ℕ} 0 1 = cc (or_cell_got (head_fault s (at + 8) m) (CellRead.Bad 3) e).1 in omega arith
+past_bad s at m e = let z : Err CellFault.Short ≡ Ok _ = (or_fault_ok (head_fault s (at + 8) m) (Err CellFault.Short) e).1 in cc
 
-whole_got : (s : List ℕ) (at m : ℕ) {c : Cell} → payload_at s at m false ≡ CellRead.Got c
-    → (head_fault s (at + 8) m ≡ 0) × (data_fault s (at + 8) m false ≡ 0) × (cell_in s at m ≡ c)
+whole_got : (s : List ℕ) (at m : ℕ) {c : Cell} → payload_at s at m false ≡ Ok c
+    → (head_fault s (at + 8) m ≡ None) × (data_fault s (at + 8) m false ≡ None) × (cell_in s at m ≡ c)
 unfolding payload_at
 whole_got s at m e =
-    let o = or_cell_got (head_fault s (at + 8) m) (or_cell (data_fault s (at + 8) m false) (CellRead.Got (cell_in s at m))) e in
-    let p = or_cell_got (data_fault s (at + 8) m false) (CellRead.Got (cell_in s at m)) o.1 in
+    let o = or_fault_ok (head_fault s (at + 8) m) (or_fault (data_fault s (at + 8) m false) (Ok (cell_in s at m))) e in
+    let p = or_fault_ok (data_fault s (at + 8) m false) (Ok (cell_in s at m)) o.1 in
     let q = p.1 in
     (o.0, p.0, cc)
 
-accepted : (s : List ℕ) (at : ℕ) (c : Cell) → cell_at s at ≡ CellRead.Got c → Accepted s at c
+accepted : (s : List ℕ) (at : ℕ) (c : Cell) → cell_at s at ≡ Ok c → Accepted s at c
 unfolding cell_at
 accepted s at c e = by_head (leb (at + 8) (length s)) (leb (at + 8 + le_at 4 s (at + 4)) (length s)) refl e
   where
@@ -180,7 +176,7 @@ accepted s at c e = by_head (leb (at + 8) (length s)) (leb (at + 8 + le_at 4 s (
     m = at + 8 + le_at 4 s (at + 4)
 
     by_head : (b d : Bool) → leb m (length s) ≡ d
-        → pick b (pick d (payload_at s at m false) (payload_at s at (length s) true)) (CellRead.Bad 3) ≡ CellRead.Got c → Accepted s at c
+        → pick b (pick d (payload_at s at m false) (payload_at s at (length s) true)) (Err CellFault.Short) ≡ Ok c → Accepted s at c
     by_head true true t q =
         let w = whole_got s at m q in
         record { inside = leb-true m (length s) t; head_sound = w.0; data_sound = w.1; same = w.2 }
@@ -195,11 +191,11 @@ pub record CellPlaced (s : List ℕ) (at : ℕ) (c : Cell) : Type 0 where
   pub whole : c.version.start + c.version.len ≡ c.next
   pub few : c.version.len ≤ 4051
 
-few_data : (s : List ℕ) (i m : ℕ) → data_fault s i m false ≡ 0 → m - data_place s i ≤ 4051
+few_data : (s : List ℕ) (i m : ℕ) → data_fault s i m false ≡ None → m - data_place s i ≤ 4051
 unfolding data_fault
-few_data s i m e = ltb-false 4051 (m - data_place s i) (pick_zero (ltb 4051 (m - data_place s i)) 3 e).0
+few_data s i m e = ltb-false 4051 (m - data_place s i) (pick_none (ltb 4051 (m - data_place s i)) _ e).0
 
-pub cell_placed : (s : List ℕ) (at : ℕ) (c : Cell) → cell_at s at ≡ CellRead.Got c → CellPlaced s at c
+pub cell_placed : (s : List ℕ) (at : ℕ) (c : Cell) → cell_at s at ≡ Ok c → CellPlaced s at c
 unfolding cell_in
 cell_placed s at c e =
     let a = accepted s at c e in
@@ -217,7 +213,7 @@ pub record CellFields (s : List ℕ) (at : ℕ) (c : Cell) : Type 0 where
   pub next-is : c.next ≡ at + 8 + le_at 4 s (at + 4)
   pub stamp_in_lem : at + 8 + 9 + stamp_size (le_at 1 s (at + 8 + 9)) ≤ c.next
 
-pub cell_fields : (s : List ℕ) (at : ℕ) (c : Cell) → cell_at s at ≡ CellRead.Got c → CellFields s at c
+pub cell_fields : (s : List ℕ) (at : ℕ) (c : Cell) → cell_at s at ≡ Ok c → CellFields s at c
 unfolding cell_in
 cell_fields s at c e =
     let a = accepted s at c e in
@@ -250,13 +246,13 @@ record Sound (s : List ℕ) (i m : ℕ) : Type 0 where
   pointer-low : le_at 1 s (pointer_place s i) ≤ 1
   data_in : data_place s i ≤ m
 
-sound : (s : List ℕ) (i m : ℕ) → head_fault s i m ≡ 0 → Sound s i m
+sound : (s : List ℕ) (i m : ℕ) → head_fault s i m ≡ None → Sound s i m
 unfolding head_fault
 sound s i m e =
     let p = places s i in
     let d = data_within s i m e in
-    let c = pick_zero (ltb i m && not (eqb (le_at 1 s i) 129)) 0 e in
-    let f = or_both (flag_bad s (i + 9) m) (flag_bad s (pointer_place s i) m) (pick_zero (flag_bad s (i + 9) m || flag_bad s (pointer_place s i) m) 1 c.1).0 in
+    let c = pick_none (ltb i m && not (eqb (le_at 1 s i) 129)) _ e in
+    let f = or_both (flag_bad s (i + 9) m) (flag_bad s (pointer_place s i) m) (pick_none (flag_bad s (i + 9) m || flag_bad s (pointer_place s i) m) _ c.1).0 in
     record {
       format = eqb-true (le_at 1 s i) 129 (not-false (eqb (le_at 1 s i) 129) (and_right (ltb i m) (not (eqb (le_at 1 s i) 129)) c.0 (lt-ltb i m (omega arith))));
       stamp-low = flag_fine s (i + 9) m f.0 (omega arith);
@@ -265,12 +261,12 @@ sound s i m e =
     }
 
 -- a stamp, and a pointer, that was read at a is written there
-record StampIs (s : List ℕ) (a : ℕ) (st : Stamp) : Type 0 where
+record StampIs (s : List ℕ) (a : ℕ) (st : Option ℕ) : Type 0 where
   size : stamp_len st ≡ stamp_size (le_at 1 s a)
   fits : StampFits st
   bytes : part a (stamp_len st) s ≡ stamp_bytes st
 
-record PointerIs (s : List ℕ) (a : ℕ) (pt : Pointer) : Type 0 where
+record PointerIs (s : List ℕ) (a : ℕ) (pt : Option Pointer) : Type 0 where
   size : pointer_len pt ≡ pointer_size (le_at 1 s a)
   fits : PointerFits pt
   bytes : part a (pointer_len pt) s ≡ pointer_bytes pt
@@ -283,7 +279,7 @@ module _ (s : List ℕ) (B : AreBytes s) (a : ℕ) (low : le_at 1 s a ≤ 1) whe
   unfolding stamp_in
   stamp-is h = by_flag (eqb (le_at 1 s a) 0) refl
     where
-      by_flag : (b : Bool) → eqb (le_at 1 s a) 0 ≡ b → StampIs s a (pick b Stamp.Absent (Stamp.By (le_at 8 s (a + 1))))
+      by_flag : (b : Bool) → eqb (le_at 1 s a) 0 ≡ b → StampIs s a (pick b None (Some (le_at 8 s (a + 1))))
       by_flag true e =
           let z = eqb-true (le_at 1 s a) 0 e in
           let k = stamp-size-none (le_at 1 s a) z in
@@ -302,7 +298,7 @@ module _ (s : List ℕ) (B : AreBytes s) (a : ℕ) (low : le_at 1 s a ≤ 1) whe
   unfolding pointer_in
   pointer_is h = by_flag (eqb (le_at 1 s a) 0) refl
     where
-      by_flag : (b : Bool) → eqb (le_at 1 s a) 0 ≡ b → PointerIs s a (pick b Pointer.Absent (Pointer.At (le_at 4 s (a + 1)) (le_at 2 s (a + 5))))
+      by_flag : (b : Bool) → eqb (le_at 1 s a) 0 ≡ b → PointerIs s a (pick b None (Some (record { page = le_at 4 s (a + 1); slot = le_at 2 s (a + 5) })))
       by_flag true e =
           let z = eqb-true (le_at 1 s a) 0 e in
           let k = pointer-size-none (le_at 1 s a) z in
@@ -321,7 +317,7 @@ module _ (s : List ℕ) (B : AreBytes s) (a : ℕ) (low : le_at 1 s a ≤ 1) whe
           }
 
 -- the bytes of an accepted cell, field after field
-module _ (s : List ℕ) (B : AreBytes s) (at n : ℕ) (st : Stamp) (pt : Pointer) where
+module _ (s : List ℕ) (B : AreBytes s) (at n : ℕ) (st : Option ℕ) (pt : Option Pointer) where
   cell_parts : at + cell_size st pt n ≤ length s → le_at 4 s (at + 4) ≡ 9 + stamp_len st + pointer_len pt + n → le_at 1 s (at + 8) ≡ 129
       → part (at + 8 + 9) (stamp_len st) s ≡ stamp_bytes st → part (at + 8 + 9 + stamp_len st) (pointer_len pt) s ≡ pointer_bytes pt
       → part at (cell_size st pt n) s
@@ -355,8 +351,8 @@ module _ (s : List ℕ) (B : AreBytes s) (at n : ℕ) (st : Stamp) (pt : Pointer
         ep,
       )
 
-accepted_is : (s : List ℕ) (at : ℕ) → AreBytes s → at + 8 + le_at 4 s (at + 4) ≤ length s → head_fault s (at + 8) (at + 8 + le_at 4 s (at + 4)) ≡ 0
-    → data_fault s (at + 8) (at + 8 + le_at 4 s (at + 4)) false ≡ 0 → CellIs s at (cell_in s at (at + 8 + le_at 4 s (at + 4)))
+accepted_is : (s : List ℕ) (at : ℕ) → AreBytes s → at + 8 + le_at 4 s (at + 4) ≤ length s → head_fault s (at + 8) (at + 8 + le_at 4 s (at + 4)) ≡ None
+    → data_fault s (at + 8) (at + 8 + le_at 4 s (at + 4)) false ≡ None → CellIs s at (cell_in s at (at + 8 + le_at 4 s (at + 4)))
 unfolding cell_in
 accepted_is s at B inside hf df =
     let i = at + 8 in

@@ -1,15 +1,19 @@
--- What is told of a page that cannot be read on: the kind of the fault, the page and the offset. Kind 1 to 4 is of a cell
--- (Read), with the cell's offset; kind 0 and offset 0 is of the page's structure.
+-- What is told of a page that cannot be read on: its structure is wrong, or a cell of it is, with the cell's offset and the
+-- kind of its fault (Read).
 use Rattle.std.specs.Prelude.{ℕ}
 use Rattle.row.specs.declared.Fault.{Fault}
-
--- where nothing was met
-abbrev pub no_fault : Fault
-no_fault = record { kind = 0; page = 0; offset = 0 }
+use Rattle.row.specs.declared.CellFault.{CellFault}
 
 -- of page p: of its structure, or of the cell at `at`
 abbrev pub structural : ℕ → Fault
-structural p = record { kind = 0; page = p; offset = 0 }
+structural p = Fault.Structure p
 
-abbrev pub cell_fault : (p at kind : ℕ) → Fault
-cell_fault p at kind = record { kind = kind; page = p; offset = at }
+abbrev pub cell_fault : (p at : ℕ) → CellFault → Fault
+cell_fault p at kind = Fault.Cell p at kind
+
+-- the number that document 01, section 2, gives to the kind
+abbrev pub kind_number : CellFault → ℕ
+kind_number CellFault.Format = 1
+kind_number CellFault.Flag = 2
+kind_number CellFault.Short = 3
+kind_number CellFault.Long = 4

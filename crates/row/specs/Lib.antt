@@ -2,5 +2,6 @@
 pub mod Fault
 pub mod Read
 pub mod Write
+pub mod Row
 pub mod Exact
 pub mod Steps

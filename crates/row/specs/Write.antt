@@ -1,8 +1,7 @@
 -- The bytes that a version writes (document 01, section 2, "Leaf cell"), its cell's size, and the listing record.
-use Rattle.std.specs.Prelude.{List, [], ◌∷◌, ◌++◌, ℕ, ◌+◌, length}
+use Rattle.std.specs.Prelude.{Option, Some, None, List, [], ◌∷◌, ◌++◌, ℕ, ◌+◌, length}
 use Rattle.store.specs.Le.{bytes_le}
 use Rattle.page.specs.Key.{key_bytes}
-use Rattle.row.specs.declared.Stamp.{Stamp}
 use Rattle.row.specs.declared.Pointer.{Pointer}
 
 -- V, the first byte of every payload
@@ -13,31 +12,31 @@ format_version = 129
 abbrev pub max_data : ℕ
 max_data = 4051
 
-abbrev pub stamp_bytes : Stamp → List ℕ
-stamp_bytes Stamp.Absent = 0 ∷ []
-stamp_bytes (Stamp.By t) = 1 ∷ bytes_le 8 t
+abbrev pub stamp_bytes : Option ℕ → List ℕ
+stamp_bytes None = 0 ∷ []
+stamp_bytes (Some t) = 1 ∷ bytes_le 8 t
 
-abbrev pub pointer_bytes : Pointer → List ℕ
-pointer_bytes Pointer.Absent = 0 ∷ []
-pointer_bytes (Pointer.At p t) = 1 ∷ (bytes_le 4 p ++ bytes_le 2 t)
+abbrev pub pointer_bytes : Option Pointer → List ℕ
+pointer_bytes None = 0 ∷ []
+pointer_bytes (Some p) = 1 ∷ (bytes_le 4 p.page ++ bytes_le 2 p.slot)
 
-abbrev pub stamp_len : Stamp → ℕ
-stamp_len Stamp.Absent = 1
-stamp_len (Stamp.By t) = 9
+abbrev pub stamp_len : Option ℕ → ℕ
+stamp_len None = 1
+stamp_len (Some t) = 9
 
-abbrev pub pointer_len : Pointer → ℕ
-pointer_len Pointer.Absent = 1
-pointer_len (Pointer.At p t) = 7
+abbrev pub pointer_len : Option Pointer → ℕ
+pointer_len None = 1
+pointer_len (Some p) = 7
 
 -- "A cell is 19 bytes plus data when live and unpointed, at most 33 plus data."
-abbrev pub cell_size : Stamp → Pointer → ℕ → ℕ
+abbrev pub cell_size : Option ℕ → Option Pointer → ℕ → ℕ
 cell_size st pt n = 17 + stamp_len st + pointer_len pt + n
 
 -- key, payload length, V, creator
 unfoldable pub head_bytes : (key n creator : ℕ) → List ℕ
 head_bytes key n creator = key_bytes key ++ (bytes_le 4 n ++ (format_version ∷ bytes_le 8 creator))
 
-unfoldable pub cell_bytes : (key creator : ℕ) → Stamp → Pointer → List ℕ → List ℕ
+unfoldable pub cell_bytes : (key creator : ℕ) → Option ℕ → Option Pointer → List ℕ → List ℕ
 cell_bytes key creator st pt body =
     head_bytes key (9 + stamp_len st + pointer_len pt + length body) creator ++ (stamp_bytes st ++ (pointer_bytes pt ++ body))
 

@@ -26,7 +26,10 @@ pub mod read;
 pub mod write;
 
 ghost use Rattle.std.specs.Prelude.{◌≡◌};
-ghost use Rattle.row.specs.Fault.{structural};
+ghost use Rattle.row.specs.Fault.{structural, kind_number};
+ghost use Rattle.row.specs.Row.{Row};
+
+use std::marker::Model;
 
 // The first byte of every payload.
 pub const MVCC_ROW_PAYLOAD_FORMAT_VERSION: u8 = 0x81;
@@ -34,32 +37,25 @@ pub const MVCC_ROW_PAYLOAD_FORMAT_VERSION: u8 = 0x81;
 // A version's data is at most so long: a cell at the limit still takes a stamp and a pointer.
 pub const MAX_DATA: usize = 4051;
 
-// The deleter of a version, whatever became of that transaction; without one the version is live.
-#[derive(Clone, Copy)]
-pub enum Stamp {
-    Absent,
-    By(u64),
-}
-
 // The version pointer: a page and slot, kept as they are and never followed.
-#[derive(Clone, Copy)]
-pub enum Pointer {
-    Absent,
-    At { page: u32, slot: u16 },
+#[derive(Clone, Copy, PartialEq, Eq, Debug)]
+pub struct Pointer {
+    pub page: u32,
+    pub slot: u16,
 }
 
 // The data is a place in the bytes that were read: where it starts, and its length.
-#[derive(Clone, Copy)]
+#[derive(Clone, Copy, PartialEq, Eq, Debug)]
 pub struct Version {
     pub creator: u64,
-    pub stamp: Stamp,
-    pub pointer: Pointer,
+    pub stamp: Option<u64>,
+    pub pointer: Option<Pointer>,
     pub start: usize,
     pub len: usize,
 }
 
 // From offset at to offset next; the key is its rank.
-#[derive(Clone, Copy)]
+#[derive(Clone, Copy, PartialEq, Eq, Debug)]
 pub struct Cell {
     pub at: usize,
     pub key: u32,
@@ -67,28 +63,65 @@ pub struct Cell {
     pub next: usize,
 }
 
-// What was met where a page cannot be read on: kind 1 to 4 and the offset of the cell; 0 and 0 for the page's structure.
-#[derive(Clone, Copy)]
-pub struct Fault {
-    pub kind: u8,
-    pub page: u32,
-    pub offset: u16,
+// A version to be stored: what its cell will say, and the caller's data. The key is its rank.
+#[derive(Drop)]
+pub struct NewVersion<'a> {
+    pub key: u32,
+    pub creator: u64,
+    pub stamp: Option<u64>,
+    pub pointer: Option<Pointer>,
+    pub body: &'a [u8],
 }
 
-// Where nothing was met.
-pub const NO_FAULT: Fault = Fault {
-    kind: 0,
-    page: 0,
-    offset: 0,
-};
+impl<'a> Model for NewVersion<'a> {
+    ghost Value = { Row };
 
-// The fault of a page whose structure is wrong: its number, type, keys, order or links.
+    ghost view = { λ v. record { key = v.key; creator = v.creator; stamp = v.stamp; pointer = v.pointer; body = v.body.now } };
+}
+
+// What is wrong with a cell that cannot be read, in the order in which it is named (document 01 numbers them 1 to 4).
+#[derive(Clone, Copy, PartialEq, Eq, Debug)]
+pub enum CellFault {
+    // An unknown format byte.
+    Format = 1,
+    // A flag above 1.
+    Flag,
+    // A payload that is short, or goes on past the end.
+    Short,
+    // Data over 4051 bytes.
+    Long,
+}
+
+// The number that document 01 gives to the kind.
+impl From<CellFault> for u8 {
+    ghost from_gives = { λ k n. n ≡ kind_number k };
+
+    fn from(kind: CellFault) -> u8 {
+        match kind {
+            CellFault::Format => 1,
+            CellFault::Flag => 2,
+            CellFault::Short => 3,
+            CellFault::Long => 4,
+        }
+    }
+}
+
+// What was met where a page cannot be read on.
+#[derive(Clone, Copy, PartialEq, Eq, Debug)]
+pub enum Fault {
+    // The structure of this page is wrong: its number, type, keys, order or links.
+    Structure(u32),
+    // The cell at that offset of the page cannot be read.
+    Cell {
+        page: u32,
+        offset: usize,
+        kind: CellFault,
+    },
+}
+
+// The fault of a page whose structure is wrong.
 pub fn structural_fault(p: u32) -> Fault
     ensures { result ≡ structural p }
 {
-    Fault {
-        kind: 0,
-        page: p,
-        offset: 0,
-    }
+    Fault::Structure(p)
 }

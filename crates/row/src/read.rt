@@ -1,25 +1,11 @@
 // The reader of a cell (document 01, section 2): it accepts exactly the bytes that a version writes, and names the
-// fault of any others: 1 unknown format byte, 2 a flag above 1, 3 a payload short or past the end, 4 data over 4051.
+// fault of any others.
 ghost use Rattle.std.specs.Prelude.{◌≡◌, ◌+◌, ◌≤◌, length};
 ghost use Rattle.store.specs.Le.{le_at};
 ghost use Rattle.row.specs.Read.{stamp_size, pointer_size, stamp_in, pointer_in, payload_at, cell_at};
 ghost use Rattle.row.specs.Steps.Read.{head_at, end_at};
 
-use crate::{Cell, MAX_DATA, MVCC_ROW_PAYLOAD_FORMAT_VERSION, Pointer, Stamp, Version};
-
-// Where the pointer's flag stands and where the data starts, or the kind of fault.
-#[derive(Clone, Copy)]
-pub enum HeadRead {
-    Got(usize, usize),
-    Bad(u8),
-}
-
-// The cell that was read, or the kind of its fault, 1 to 4.
-#[derive(Clone, Copy)]
-pub enum CellRead {
-    Got(Cell),
-    Bad(u8),
-}
+use crate::{Cell, CellFault, MAX_DATA, MVCC_ROW_PAYLOAD_FORMAT_VERSION, Pointer, Version};
 
 fn stamp_size(flag: u8) -> usize
     ensures { result ≡ stamp_size flag }
@@ -33,102 +19,98 @@ fn pointer_size(flag: u8) -> usize
     if flag == 0 { 1 } else { 7 }
 }
 
-fn stamp_in(s: &[u8], i: usize) -> Stamp
+fn stamp_in(s: &[u8], i: usize) -> Option<u64>
     requires { i + stamp_size (le_at 1 s.now i) ≤ length s.now }
     ensures { result ≡ stamp_in s.now i }
 {
     if store::get8(s, i) == 0 {
-        return Stamp::Absent;
+        return None;
     }
-    Stamp::By(store::get64(s, i + 1))
+    Some(store::get64(s, i + 1))
 }
 
-fn pointer_in(s: &[u8], i: usize) -> Pointer
+fn pointer_in(s: &[u8], i: usize) -> Option<Pointer>
     requires { i + pointer_size (le_at 1 s.now i) ≤ length s.now }
     ensures { result ≡ pointer_in s.now i }
 {
     if store::get8(s, i) == 0 {
-        return Pointer::Absent;
+        return None;
     }
-    Pointer::At {
+    Some(Pointer {
         page: store::get32(s, i + 1),
         slot: store::get16(s, i + 5),
-    }
+    })
 }
 
 // The fields of a payload that starts at i and of which the bytes up to m are there.
-fn head_at(s: &[u8], i: usize, m: usize) -> HeadRead
+fn head_at(s: &[u8], i: usize, m: usize) -> Result<(usize, usize), CellFault>
     requires { (i ≤ m) × (m ≤ length s.now) }
     ensures { result ≡ head_at s.now i m }
 {
     if m - i < 1 {
-        return HeadRead::Bad(3);
+        return Err(CellFault::Short);
     }
     if store::get8(s, i) != MVCC_ROW_PAYLOAD_FORMAT_VERSION {
-        return HeadRead::Bad(1);
+        return Err(CellFault::Format);
     }
     if m - i < 10 {
-        return HeadRead::Bad(3);
+        return Err(CellFault::Short);
     }
     let f = store::get8(s, i + 9);
     if 1 < f {
-        return HeadRead::Bad(2);
+        return Err(CellFault::Flag);
     }
     let j = i + 9 + stamp_size(f);
     if m <= j {
-        return HeadRead::Bad(3);
+        return Err(CellFault::Short);
     }
     let g = store::get8(s, j);
     if 1 < g {
-        return HeadRead::Bad(2);
+        return Err(CellFault::Flag);
     }
     let k = j + pointer_size(g);
     if m < k {
-        return HeadRead::Bad(3);
+        return Err(CellFault::Short);
     }
-    HeadRead::Got(j, k)
+    Ok((j, k))
 }
 
 // The cell at that offset, if its payload is whole; past says that it goes on beyond m, where the bytes that are there end.
-fn payload_at(s: &[u8], at: usize, m: usize, past: bool) -> CellRead
+fn payload_at(s: &[u8], at: usize, m: usize, past: bool) -> Result<Cell, CellFault>
     requires { (at + 8 ≤ m) × (m ≤ length s.now) }
     ensures { result ≡ payload_at s.now at m past }
 {
     let i = at + 8;
-    match head_at(s, i, m) {
-        HeadRead::Bad(kind) => CellRead::Bad(kind),
-        HeadRead::Got(j, k) => {
-            if past {
-                return CellRead::Bad(3);
-            }
-            if MAX_DATA < m - k {
-                return CellRead::Bad(4);
-            }
-            CellRead::Got(Cell {
-                at,
-                key: page::key::get_rank(s, at),
-                version: Version {
-                    creator: store::get64(s, i + 1),
-                    stamp: stamp_in(s, i + 9),
-                    pointer: pointer_in(s, j),
-                    start: k,
-                    len: m - k,
-                },
-                next: m,
-            })
-        }
+    let (j, k) = head_at(s, i, m)?;
+    if past {
+        return Err(CellFault::Short);
     }
+    if MAX_DATA < m - k {
+        return Err(CellFault::Long);
+    }
+    Ok(Cell {
+        at,
+        key: page::key::get_rank(s, at),
+        version: Version {
+            creator: store::get64(s, i + 1),
+            stamp: stamp_in(s, i + 9),
+            pointer: pointer_in(s, j),
+            start: k,
+            len: m - k,
+        },
+        next: m,
+    })
 }
 
-// The cell at that offset of any bytes, or the lowest kind of fault that holds on the bytes that are there.
-pub fn read_cell(s: &[u8], at: usize) -> CellRead
+// The cell at that offset of any bytes, or the first kind of fault that holds on the bytes that are there.
+pub fn read_cell(s: &[u8], at: usize) -> Result<Cell, CellFault>
     ensures { result ≡ cell_at s.now at }
 {
     if s.len() < 8 {
-        return CellRead::Bad(3);
+        return Err(CellFault::Short);
     }
     if s.len() - 8 < at {
-        return CellRead::Bad(3);
+        return Err(CellFault::Short);
     }
     let n = store::get32(s, at + 4) as usize;
     let i = at + 8;
@@ -138,31 +120,29 @@ pub fn read_cell(s: &[u8], at: usize) -> CellRead
     payload_at(s, at, i + n, false)
 }
 
-// Where the cell ends, and 0 for none that can be read: a walk judges by this, and does not build the cell.
-pub fn cell_end(s: &[u8], at: usize) -> usize
+// Where the cell ends, if it can be read: a walk judges by this, and does not build the cell.
+pub fn cell_end(s: &[u8], at: usize) -> Option<usize>
     ensures { result ≡ end_at s.now at }
 {
     if s.len() < 8 {
-        return 0;
+        return None;
     }
     if s.len() - 8 < at {
-        return 0;
+        return None;
     }
     let n = store::get32(s, at + 4) as usize;
     let i = at + 8;
     if s.len() - i < n {
-        return 0;
+        return None;
     }
     let m = i + n;
-    match head_at(s, i, m) {
-        HeadRead::Bad(_) => 0,
-        HeadRead::Got(_, k) => {
-            if MAX_DATA < m - k {
-                return 0;
-            }
-            m
-        }
+    let Ok((_, k)) = head_at(s, i, m) else {
+        return None;
+    };
+    if MAX_DATA < m - k {
+        return None;
     }
+    Some(m)
 }
 
 // Where the cell ends. Of a cell that is known to be there, as the two below: nothing is judged.
@@ -182,7 +162,7 @@ pub fn creator_at(s: &[u8], at: usize) -> u64
 }
 
 // The stamp of a cell that is known to be there.
-pub fn stamp_at(s: &[u8], at: usize) -> Stamp
+pub fn stamp_at(s: &[u8], at: usize) -> Option<u64>
     requires { at + 8 + 9 + stamp_size (le_at 1 s.now (at + 8 + 9)) ≤ length s.now }
     ensures { result ≡ stamp_in s.now (at + 8 + 9) }
 {

@@ -2,34 +2,45 @@
 // and writes from the fields and the caller's data: no buffer holds a cell.
 ghost use Rattle.std.specs.Prelude.{◌≡◌, ◌+◌, ◌≤◌, ◌<◌, length};
 ghost use Rattle.store.specs.Part.{put};
-ghost use Rattle.row.specs.Write.{stamp_len, pointer_len, cell_size, stamp_bytes, pointer_bytes, head_bytes, cell_bytes};
+ghost use Rattle.row.specs.Write.{stamp_len, pointer_len, cell_size, stamp_bytes, pointer_bytes, head_bytes};
+ghost use Rattle.row.specs.Row.{row_size, row_bytes};
 
-use crate::{MVCC_ROW_PAYLOAD_FORMAT_VERSION, Pointer, Stamp};
+use crate::{MVCC_ROW_PAYLOAD_FORMAT_VERSION, NewVersion, Pointer};
 
-fn stamp_len(stamp: Stamp) -> usize
+fn stamp_len(stamp: Option<u64>) -> usize
     ensures { result ≡ stamp_len stamp }
 {
     match stamp {
-        Stamp::Absent => 1,
-        Stamp::By(_) => 9,
+        None => 1,
+        Some(_) => 9,
     }
 }
 
-fn pointer_len(pointer: Pointer) -> usize
+fn pointer_len(pointer: Option<Pointer>) -> usize
     ensures { result ≡ pointer_len pointer }
 {
     match pointer {
-        Pointer::Absent => 1,
-        Pointer::At { page: _, slot: _ } => 7,
+        None => 1,
+        Some(_) => 7,
     }
 }
 
 // The bytes that a version's cell takes: 19 and its data when live and unpointed, at most 33 and its data.
-pub fn cell_size(stamp: Stamp, pointer: Pointer, len: usize) -> usize
+pub fn cell_size(stamp: Option<u64>, pointer: Option<Pointer>, len: usize) -> usize
     requires { len ≤ 4051 }
     ensures { result ≡ cell_size stamp pointer len }
 {
     17 + stamp_len(stamp) + pointer_len(pointer) + len
+}
+
+impl<'a> NewVersion<'a> {
+    // The bytes that its cell takes.
+    pub fn size(&self) -> usize
+        requires { length self.now.body ≤ 4051 }
+        ensures { result ≡ row_size self.now }
+    {
+        cell_size(self.stamp, self.pointer, self.body.len())
+    }
 }
 
 // Key, payload length, format byte and creator.
@@ -43,49 +54,43 @@ fn put_head(out: &mut [u8], key: u32, n: u32, creator: u64)
     store::put64(out, 9, creator);
 }
 
-fn put_stamp(out: &mut [u8], i: usize, stamp: Stamp)
+fn put_stamp(out: &mut [u8], i: usize, stamp: Option<u64>)
     requires { i + stamp_len stamp ≤ length out.old }
     ensures { out.new ≡ put i (stamp_bytes stamp) out.old }
 {
     match stamp {
-        Stamp::Absent => store::put8(out, i, 0),
-        Stamp::By(t) => {
+        None => store::put8(out, i, 0),
+        Some(t) => {
             store::put8(out, i, 1);
             store::put64(out, i + 1, t);
         }
     }
 }
 
-fn put_pointer(out: &mut [u8], i: usize, pointer: Pointer)
-    requires { i + pointer_len pointer ≤ length out.old }
-    ensures { out.new ≡ put i (pointer_bytes pointer) out.old }
+fn put_pointer(out: &mut [u8], at: usize, pointer: Option<Pointer>)
+    requires { at + pointer_len pointer ≤ length out.old }
+    ensures { out.new ≡ put at (pointer_bytes pointer) out.old }
 {
     match pointer {
-        Pointer::Absent => store::put8(out, i, 0),
-        Pointer::At { page, slot } => {
-            store::put8(out, i, 1);
-            store::put32(out, i + 1, page);
-            store::put16(out, i + 5, slot);
+        None => store::put8(out, at, 0),
+        Some(p) => {
+            store::put8(out, at, 1);
+            store::put32(out, at + 1, p.page);
+            store::put16(out, at + 5, p.slot);
         }
     }
 }
 
-// Writes the cell at the start of out, whose other bytes stay.
-pub fn write_cell(
-    out: &mut [u8],
-    key: u32,
-    creator: u64,
-    stamp: Stamp,
-    pointer: Pointer,
-    body: &[u8],
-)
-    requires { (length body.now ≤ 4051) × (cell_size stamp pointer (length body.now) ≤ length out.old) }
-    ensures { out.new ≡ put 0 (cell_bytes key creator stamp pointer body.now) out.old }
+// Writes the version's cell at the start of out, whose other bytes stay.
+pub fn write_cell(out: &mut [u8], version: &NewVersion<'_>)
+    requires { (length version.now.body ≤ 4051) × (row_size version.now ≤ length out.old) }
+    ensures { out.new ≡ put 0 (row_bytes version.now) out.old }
 {
-    let a = 17 + stamp_len(stamp);
-    let b = a + pointer_len(pointer);
-    put_head(out, key, (b + body.len() - 8) as u32, creator);
-    put_stamp(out, 17, stamp);
-    put_pointer(out, a, pointer);
-    store::run::copy_in(out, b, body);
+    let a = 17 + stamp_len(version.stamp);
+    let b = a + pointer_len(version.pointer);
+    let payload = (b + version.body.len() - 8) as u32;
+    put_head(out, version.key, payload, version.creator);
+    put_stamp(out, 17, version.stamp);
+    put_pointer(out, a, version.pointer);
+    store::run::copy_in(out, b, version.body);
 }

@@ -3,3 +3,4 @@ pub mod PartLaws
 pub mod PutLaws
 pub mod SeamLaws
 pub mod Tests
+pub mod LeBytesLaws

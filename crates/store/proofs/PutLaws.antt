@@ -1,18 +1,18 @@
 -- Laws of `put`: what stores leave, part by part, and what two stores side by side make. Assumes nothing.
-use mathlib.Core.Path.{◌≡◌, refl, ap, sym, ◌∙◌, subst}
+use mathlib.Core.Path.{◌≡◌, refl, ap, sym, ◌∙◌}
 use mathlib.Core.List.{List, [], ◌∷◌, ◌++◌, append_assoc, append-nil}
-use mathlib.Core.Logic.{◌⊎◌, inl, inr, ⊎_elim}
 use Prim.Native.Nat.{ℕ, zero, suc, ◌+◌, ◌-◌, ◌≤◌, ◌<◌}
 use native.Mathlib.Nat.{add-zero, zero-add, add-suc, suc-add, add_assoc, le_refl}
 use native.Mathlib.Numerals.{add-one}
 use native.Mathlib.Omega.{arith}
 use lib.ListN.{length, take, drop, set, get_or, length-append, length-take, length-drop, length-replicate, take-append-drop, drop_of_length-le}
-use lib.Seq.{take-suc-set, drop-set-lt, take-set-le, drop-set-add, drop-cons, set_split, drop_at, take_at, length-take-le, drop-drop, take-append-le, take-take, drop-append-add, drop-length, take-nil, take_all}
+use lib.Seq.{take-suc-set, drop-set-lt, drop-cons, drop_at, take_at, length-take-le, drop-drop, take-append-le, take-take, drop-append-add, drop-length, take-nil, take_all}
 use borrow.Rule.Slice.PartMut.{mid_of, put_mid, mid_len}
 use Rattle.store.specs.Le.{bytes_le, put_at}
+use Rattle.std.specs.List.{copy_within}
 use Rattle.store.specs.Part.{part, splice, put, zeros, pad, spliced}
 use Rattle.store.proofs.LeLaws.{put_at-bytes, length-bytes_le}
-use Rattle.store.proofs.PartLaws.{length_part, part_snoc, splice-part}
+use Rattle.store.proofs.PartLaws.{length_part, splice-part}
 
 pub put_def : (a : ℕ) (x s : List ℕ) → put a x s ≡ take a s ++ (x ++ drop (a + length x) s)
 unfolding put splice
@@ -46,36 +46,6 @@ put_cons a v x s h =
     let l : a < suc a + length x = omega arith in
     put_def (a + 1) x (set s a v) ∙ rw (add-one, take-suc-set, drop-set-lt, put_def, e, append_assoc)
 
--- the last element stored, those before it to do
-put_snoc : (a v : ℕ) (x s : List ℕ) → a + length x < length s → put a x (set s (a + length x) v) ≡ put a (x ++ (v ∷ [])) s
-put_snoc a v x s h =
-    let m : length (take (a + length x) s) ≡ a + length x = length-take-le (a + length x) s (omega arith) in
-    let l : a ≤ a + length x = omega arith in
-    let e : drop (a + length x) (set s (a + length x) v) ≡ v ∷ drop (suc (a + length x)) s =
-    rw set_split (drop_at (take (a + length x) s) (v ∷ drop (suc (a + length x)) s) (a + length x) m) in
-    let k : a + length (x ++ (v ∷ [])) ≡ suc (a + length x) = simp length-append (omega arith) in
-    put_def a x (set s (a + length x) v) ∙ rw (take-set-le, e, put_def, k, append_assoc)
-
--- a part does not see a store outside it
-part-set : (i v a n : ℕ) (s : List ℕ) → (i < a) ⊎ (a + n ≤ i) → part a n (set s i v) ≡ part a n s
-unfolding part
-part-set i v a n s =
-    ⊎_elim
-    (λ h. rw drop-set-lt)
-    (λ h.
-    let e : i ≡ a + (i - a) = omega arith in
-    let k : n ≤ i - a = omega arith in
-    ap (λ (x : ℕ). part a n (set s x v)) e ∙ rw (drop-set-add, take-set-le))
-
--- a part's first element, at a place j of a run of n
-part_cons : (a n j : ℕ) (s : List ℕ) → j < n → a + n ≤ length s → part (a + j) (n - j) s ≡ get_or s (a + j) 0 ∷ part (a + (j + 1)) (n - (j + 1)) s
-unfolding part
-part_cons a n j s h k =
-    let l : a + j < length s = omega arith in
-    let e : n - j ≡ suc (n - (j + 1)) = omega arith in
-    let f : a + (j + 1) ≡ suc (a + j) = omega arith in
-    rw (drop-cons s (a + j) 0, e, f)
-
 pub part_none : (a n : ℕ) (s : List ℕ) → n ≡ 0 → part a n s ≡ []
 unfolding part
 part_none a n s e = rw e
@@ -88,29 +58,6 @@ pub step_in : (at j : ℕ) (x s : List ℕ) → j < length x → at + j < length
 step_in at j x s h k =
     let e : at + (j + 1) ≡ (at + j) + 1 = omega arith in
     rw (e, add-one j, drop-cons x j 0) (put_cons (at + j) (get_or x j 0) (drop (suc j) x) s k)
-
-pub step_zero : (i to : ℕ) (s : List ℕ) → i < to → i < length s → put (i + 1) (zeros (to - (i + 1))) (set s i 0) ≡ put i (zeros (to - i)) s
-step_zero i to s h k =
-    let e : to - i ≡ suc (to - (i + 1)) = omega arith in
-    rw e (put_cons i 0 (zeros (to - (i + 1))) s k)
-
-pub step_down : (src dst n j : ℕ) (s : List ℕ) → j < n → dst ≤ src → src + n ≤ length s
-    → put (dst + (j + 1)) (part (src + (j + 1)) (n - (j + 1)) (set s (dst + j) (get_or s (src + j) 0))) (set s (dst + j) (get_or s (src + j) 0))
-    ≡ put (dst + j) (part (src + j) (n - j) s) s
-step_down src dst n j s h l k =
-    let v : ℕ = get_or s (src + j) 0 in
-    let e : dst + (j + 1) ≡ (dst + j) + 1 = omega arith in
-    rw (part-set (dst + j) v (src + (j + 1)) (n - (j + 1)) s (inl (omega arith)), part_cons src n j s h k, e)
-    (put_cons (dst + j) v (part (src + (j + 1)) (n - (j + 1)) s) s (omega arith))
-
-pub step-up : (src dst m : ℕ) (s : List ℕ) → src ≤ dst → dst + m < length s
-    → put dst (part src m (set s (dst + m) (get_or s (src + m) 0))) (set s (dst + m) (get_or s (src + m) 0)) ≡ put dst (part src (m + 1) s) s
-step-up src dst m s h k =
-    let v : ℕ = get_or s (src + m) 0 in
-    let e : length (part src m s) ≡ m = length_part src m s (omega arith) in
-    rw (part-set (dst + m) v src m s (inr (omega arith)), ← part_snoc src m s (omega arith))
-    (subst (λ (x : ℕ). put dst (part src m s) (set s (dst + x) v) ≡ put dst (part src m s ++ (v ∷ [])) s) e
-    (put_snoc dst v (part src m s) s (rw e (omega arith))))
 
 -- ---- what a `put` leaves, part by part
 
@@ -195,8 +142,10 @@ put-before a x y s h =
 
 -- ---- a lent part that has come back
 
-pub part_back : (s y : List ℕ) (a e : ℕ) → a ≤ e → e ≤ length s → length y ≡ length (mid_of a (e - a) s) → put_mid a (e - a) s y ≡ put a y s
-part_back s y a e h k l = rw (put_def, l, mid_len a e s k, drop-drop)
+-- a run x written over a lent part of as many elements
+pub put_back : (a k : ℕ) (x s : List ℕ) {y : List ℕ} → length x ≡ k → y ≡ x → put_mid a k s y ≡ put a x s
+unfolding put splice
+put_back a k x s l e = rw (e, l)
 
 -- a store at the start of a lent tail `&mut s[at..]` is a store in the whole
 pub tail_back : (s y : List ℕ) (at : ℕ) (x : List ℕ) → at + length x ≤ length s → length y ≡ length (mid_of at (length s - at) s)
@@ -206,7 +155,15 @@ tail_back s y at x h l e =
     let f : y ≡ x ++ drop (at + length x) s = e ∙ rw (put_def, t, zero-add, drop-drop) in
     let k : length s ≤ at + length y = rw (l, mid_len at (length s) s (le_refl (length s))) (omega arith) in
     let n : drop (at + length y) s ≡ [] = drop_of_length-le s k in
-    part_back s y at (length s) (omega arith) (omega arith) l ∙ rw (put_def, n, append-nil, f, put_def)
+    put_back at (length s - at) y s (l ∙ mid_len at (length s) s (le_refl (length s))) refl ∙ rw (put_def, n, append-nil, f, put_def)
+
+-- what `copy_within` leaves
+pub put_copied : (src dst n : ℕ) (s : List ℕ) → src + n ≤ length s → copy_within s src (src + n) dst ≡ put dst (part src n s) s
+unfolding part
+put_copied src dst n s h =
+    let e : src + n - src ≡ n = omega arith in
+    let l : length (part src n s) ≡ n = length_part src n s h in
+    rw (put_def, l, e) (append_assoc (take dst s) (part src n s) (drop (dst + n) s))
 
 -- ---- a body with a part replaced
 

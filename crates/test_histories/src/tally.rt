@@ -1,92 +1,103 @@
-// What is counted, and the lines that say it: a place for each thing that a step can come to.
-use std::io;
+// What is counted, and the lines that say it.
+use std::fmt;
 
-// Histories begun.
-pub const CREATED: usize = 0;
+// What a line of the list comes to.
+#[derive(Clone, Copy)]
+pub enum Event {
+    Created,
+    Inserted,
+    // Refused, since no division has room for the version.
+    Undividable,
+    Stamped,
+    NothingStamped,
+    Removed,
+    NothingRemoved,
+    Vacuumed,
+    NothingVacuumed,
+    // The list records a page.
+    Told,
+    // The line cannot be read, or the call is refused and should not be.
+    Fault,
+    // A case is compared, and is the same or differs.
+    Same,
+    Differs,
+}
 
-// Versions inserted.
-pub const INSERTED: usize = 1;
+// The kinds of event that have a line of their own.
+const REPORTED: [Event; 11] = [
+    Event::Created,
+    Event::Inserted,
+    Event::Undividable,
+    Event::Stamped,
+    Event::NothingStamped,
+    Event::Removed,
+    Event::NothingRemoved,
+    Event::Vacuumed,
+    Event::NothingVacuumed,
+    Event::Told,
+    Event::Fault,
+];
 
-// Versions that were refused, since no division has room for them.
-pub const UNDIVIDABLE: usize = 2;
-
-// Versions stamped.
-pub const STAMPED: usize = 3;
-
-// Stamps that find nothing.
-pub const NOTHING_STAMPED: usize = 4;
-
-// Removals of some version.
-pub const REMOVED: usize = 5;
-
-// Removals that find nothing.
-pub const NOTHING_REMOVED: usize = 6;
-
-// Vacuums that drop versions.
-pub const VACUUMED: usize = 7;
-
-// Vacuums that drop none.
-pub const NOTHING_VACUUMED: usize = 8;
-
-// Pages that the list records.
-pub const TOLD: usize = 9;
-
-// A line that cannot be read, or a call that is refused and should not be.
-pub const FAULT: usize = 10;
-
-// Cases that are compared.
-pub const CASES: usize = 11;
-
-// Cases that differ.
-pub const DIFFER: usize = 12;
-
-// How many places there are.
-pub const PLACES: usize = 13;
-
-pub type Counts = [u64; PLACES];
-
-// A count is at most the length of the list, and so never wraps.
-pub fn note(counts: &mut Counts, place: usize) {
-    if place < PLACES {
-        counts[place] = counts[place].wrapping_add(1);
+// What there were so many of.
+impl fmt::Display for Event {
+    fn fmt<W: fmt::Write>(&self, f: &mut fmt::Formatter<W>) -> fmt::Result {
+        let what = match self {
+            Event::Created => "histories",
+            Event::Inserted => "versions inserted",
+            Event::Undividable => "versions that no division has room for",
+            Event::Stamped => "versions stamped",
+            Event::NothingStamped => "stamps that find nothing",
+            Event::Removed => "removals",
+            Event::NothingRemoved => "removals that find nothing",
+            Event::Vacuumed => "vacuums that drop versions",
+            Event::NothingVacuumed => "vacuums that drop none",
+            Event::Told => "pages recorded",
+            Event::Fault => "faults",
+            Event::Same => "cases that are the same",
+            Event::Differs => "cases that differ",
+        };
+        write!(f, "{what}")
     }
 }
 
-fn say(rt: &impl Print, n: u64, what: &str) -> io::Result<()> {
-    print!(rt; "{n}{what}")
+const KINDS: usize = 13;
+
+// How many events of each kind there were.
+#[derive(Clone, Copy)]
+pub struct Counts {
+    of: [u64; KINDS],
 }
 
-// Writes a line that names the last case, which differs.
-pub fn differs(rt: &impl Print, counts: &Counts) -> io::Result<()> {
-    print!(rt; "case ")?;
-    say(rt, counts[CASES], " differs\n")
+impl Counts {
+    // No events.
+    pub fn new() -> Self {
+        Counts { of: [0; KINDS] }
+    }
+
+    // Counts an event. A count is at most the length of the list, and so never comes to its type's end.
+    pub fn add(&mut self, event: Event) {
+        let count = &mut self.of[event as usize];
+        *count = count.saturating_add(1);
+    }
+
+    fn of(&self, event: Event) -> u64 {
+        self.of[event as usize]
+    }
+
+    // How many cases were compared.
+    pub fn cases(&self) -> u64 {
+        self.of(Event::Same).saturating_add(self.of(Event::Differs))
+    }
 }
 
-fn say_changes(rt: &impl Print, counts: &Counts) -> io::Result<()> {
-    say(rt, counts[CREATED], " histories\n")?;
-    say(rt, counts[INSERTED], " versions inserted\n")?;
-    say(
-        rt,
-        counts[UNDIVIDABLE],
-        " versions that no division has room for\n",
-    )?;
-    say(rt, counts[STAMPED], " versions stamped\n")?;
-    say(rt, counts[NOTHING_STAMPED], " stamps that find nothing\n")
-}
-
-fn say_removals(rt: &impl Print, counts: &Counts) -> io::Result<()> {
-    say(rt, counts[REMOVED], " removals\n")?;
-    say(rt, counts[NOTHING_REMOVED], " removals that find nothing\n")?;
-    say(rt, counts[VACUUMED], " vacuums that drop versions\n")?;
-    say(rt, counts[NOTHING_VACUUMED], " vacuums that drop none\n")
-}
-
-// Writes all counts; the last line is how many cases there are, and how many differ.
-pub fn report(rt: &impl Print, counts: &Counts) -> io::Result<()> {
-    say_changes(rt, counts)?;
-    say_removals(rt, counts)?;
-    say(rt, counts[TOLD], " pages recorded\n")?;
-    say(rt, counts[FAULT], " faults\n")?;
-    say(rt, counts[CASES], " cases, ")?;
-    say(rt, counts[DIFFER], " differ\n")
+// The last line is how many cases there are, and how many differ.
+impl fmt::Display for Counts {
+    fn fmt<W: fmt::Write>(&self, f: &mut fmt::Formatter<W>) -> fmt::Result {
+        for event in REPORTED {
+            writeln!(f, "{} {event}", self.of(event))?;
+        }
+        let cases = self.cases();
+        let differ = self.of(Event::Differs);
+        write!(f, "{cases} cases, {differ} differ")
+    }
 }

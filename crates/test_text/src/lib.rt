@@ -1,20 +1,25 @@
-// The text of a recorded list: the fields of a line, with one space between two, and numbers and byte strings in
-// hexadecimal. A field that is not there is empty, and no number or byte string is. Module fields reads a version's.
+// The text of a recorded list: lines, the fields of a line with one space between two, and numbers and byte strings in
+// hexadecimal. A field that is not there is empty, and no number or byte string is. Module line cuts a list into lines and
+// a line into fields, and module head reads a version's.
 #![tactic(auto)]
 
-pub mod fields;
+pub mod head;
+pub mod line;
 
-ghost use Rattle.std.specs.Prelude.{◌≡◌, ℕ, ◌<◌, ◌≤◌, ◌≢◌, IfOk, length, slice_index};
-ghost use Rattle.test_text.specs.Within.{Within};
+ghost use Rattle.std.specs.Prelude.{◌≡◌, ◌==◌, ◌<◌, ◌≤◌, IfOk, IfSome, length, position};
 
 use std::io;
 use std::io::Read;
 
-// The number that a text spells, or a text that spells none.
-#[derive(Clone, Copy)]
-pub enum NumberText {
-    Got(u64),
-    Bad,
+// Why a text does not say what it has to.
+#[derive(Clone, Copy, Debug, PartialEq, Eq)]
+pub enum TextError {
+    // It is empty, has another character than 0 to 9 and a to f, or half a byte.
+    NotHexadecimal,
+    // The number does not fit its type, or the bytes do not fit their place.
+    TooLarge,
+    // It is none of the words that may stand there.
+    UnknownWord,
 }
 
 // Reads standard input into `out` until it is full or the input ends, and answers how many bytes were read. The array goes by a
@@ -28,123 +33,81 @@ pub fn read_full<const N: usize>(rt: &impl Input, out: &mut [u8; N]) -> io::Resu
     while n < list.len() {
         let got = input.read(&mut list[n..])?;
         if got == 0 {
-            return Ok(n);
+            break;
         }
         n += got;
     }
     Ok(n)
 }
 
-// Where the first byte b stands at `from` or past it, or the length of s where there is none.
-pub fn find(s: &[u8], from: usize, b: u8) -> usize
-    requires { from ≤ length s.now }
-    ensures within { (from ≤ result) × (result ≤ length s.now) }
-    ensures before { (k : ℕ) → from ≤ k → k < result → slice_index s.now k ≢ b }
-    ensures found { result < length s.now → slice_index s.now result ≡ b }
+// The list that standard input has, read into `room`; None where it fills the room, since it may go on.
+pub fn read_list<'a, const N: usize>(
+    rt: &impl Input,
+    room: &'a mut [u8; N],
+) -> io::Result<Option<&'a [u8]>>
+    ensures { IfOk result (λ r. IfSome r (λ list. length list.now < N)) }
 {
-    let mut i = from;
-    while i < s.len() {
-        if s[i] == b {
-            return i;
-        }
-        i += 1;
-    }
-    i
+    let n = read_full(rt, room)?;
+    Ok(if n < N { Some(&room[..n]) } else { None })
 }
 
-// The line from field k on, counted from 0. A line's last field is read from this, so that nothing can follow it.
-pub fn rest(s: &[u8], k: usize) -> &[u8] {
-    let mut a = 0;
-    let mut left = k;
-    while 0 < left {
-        let e = find(s, a, b' ');
-        if e == s.len() {
-            return &s[e..];
-        }
-        a = e + 1;
-        left -= 1;
-    }
-    &s[a..]
-}
-
-// Field k of the line, counted from 0; empty where the line has fewer.
-pub fn field(s: &[u8], k: usize) -> &[u8] {
-    let t = rest(s, k);
-    let e = find(t, 0, b' ');
-    &t[0..e]
+// Where the first byte b stands in s.
+pub fn find(s: &[u8], b: u8) -> Option<usize>
+    ensures within { IfSome result (λ i. i < length s.now) }
+    ensures first { result ≡ position (λ x. x == b) s.now }
+{
+    s.iter().position(|x| *x == b)
 }
 
 // The mark of an absent stamp or pointer, or of no bytes.
 pub fn is_dash(s: &[u8]) -> bool {
-    s == b"-".as_slice()
+    matches!(s, b"-")
 }
 
-// 16 where c is no digit.
-fn digit(c: u8) -> u64 {
+// What c stands for as a hexadecimal digit.
+fn digit(c: u8) -> Option<u64> {
     match c {
-        b'0'..=b'9' => (c - b'0') as u64,
-        b'a'..=b'f' => (c - b'a' + 10) as u64,
-        _ => 16,
+        b'0'..=b'9' => Some(u64::from(c - b'0')),
+        b'a'..=b'f' => Some(u64::from(c - b'a') + 10),
+        _ => None,
     }
 }
 
-// The number that s spells, if it is at most max.
-pub fn number(s: &[u8], max: u64) -> NumberText
-    ensures { Within max result }
+// The number that s spells, if its type holds it.
+pub fn number<T: TryFrom<u64>>(s: &[u8]) -> Result<T, TextError>
+where
+    T::Error: Drop,
 {
-    if s.len() == 0 {
-        return NumberText::Bad;
+    if s.is_empty() {
+        return Err(TextError::NotHexadecimal);
     }
-    let most = max / 16;
-    let mut x: u64 = 0;
-    let mut i = 0;
-    while i < s.len() {
-        let d = digit(s[i]);
-        if 15 < d {
-            return NumberText::Bad;
-        }
-        if most < x {
-            return NumberText::Bad;
-        }
-        x = 16 * x + d;
-        i += 1;
+    let mut value: u64 = 0;
+    for c in s {
+        let digit = digit(*c).ok_or(TextError::NotHexadecimal)?;
+        value = value
+            .checked_mul(16)
+            .and_then(|high| high.checked_add(digit))
+            .ok_or(TextError::TooLarge)?;
     }
-    if max < x {
-        return NumberText::Bad;
-    }
-    NumberText::Got(x)
+    T::try_from(value).map_err(|_| TextError::TooLarge)
 }
 
-// The number in field k.
-pub fn field_number(s: &[u8], k: usize, max: u64) -> NumberText
-    ensures { Within max result }
-{
-    number(field(s, k), max)
-}
-
-// Puts the bytes that s spells at the start of out, and answers how many they are.
-pub fn bytes(s: &[u8], out: &mut [u8]) -> NumberText
-    ensures { Within (length out.new) result }
+// Puts the bytes that s spells at the start of out, and gives them back.
+pub fn bytes<'a>(s: &[u8], out: &'a mut [u8]) -> Result<&'a [u8], TextError>
+    ensures { IfOk result (λ b. length b.now ≤ length out.old) }
 {
     if is_dash(s) {
-        return NumberText::Got(0);
-    }
-    if s.len() == 0 || s.len() % 2 == 1 {
-        return NumberText::Bad;
+        return Ok(&[]);
     }
     let n = s.len() / 2;
+    if n == 0 || s.len() % 2 == 1 {
+        return Err(TextError::NotHexadecimal);
+    }
     if out.len() < n {
-        return NumberText::Bad;
+        return Err(TextError::TooLarge);
     }
-    let mut i = 0;
-    while i < n {
-        let a = 2 * i;
-        let e = a + 2;
-        let NumberText::Got(x) = number(&s[a..e], 255) else {
-            return NumberText::Bad;
-        };
-        out[i] = x as u8;
-        i += 1;
+    for (byte, pair) in out.iter_mut().zip(s.chunks_exact(2)) {
+        *byte = number(pair)?;
     }
-    NumberText::Got(n as u64)
+    Ok(&out[..n])
 }

@@ -2,31 +2,39 @@
 // rust/oracle/visibility/src/draw.rs is the same in Rust.
 ghost use Rattle.std.specs.Prelude.{◌<◌, length};
 
-// A number below n.
-pub fn below(x: &mut u32, n: usize) -> usize
-    requires { 0 < n }
-    ensures { result < n }
-{
-    let old = *x as u64;
-    let new = old * 48271 % 2147483647;
-    *x = new as u32;
-    new as usize % n
+#[derive(Drop)]
+pub struct Draw {
+    x: u32,
 }
 
-// One of list.
-pub fn one_of(x: &mut u32, list: &[u64]) -> u64
-    requires { 0 < length list.now }
-{
-    let i = below(x, list.len());
-    list[i]
-}
-
-// One of list or, as often, one of other.
-pub fn either(x: &mut u32, list: &[u64], other: &[u64]) -> u64
-    requires { (0 < length list.now) × (0 < length other.now) }
-{
-    if below(x, 2) == 0 {
-        return one_of(x, list);
+impl Draw {
+    // The source at its start, where x is 1.
+    pub fn new() -> Self {
+        Draw { x: 1 }
     }
-    one_of(x, other)
+
+    // A number below n.
+    pub fn below(&mut self, n: usize) -> usize
+        requires { 0 < n }
+        ensures { result < n }
+    {
+        let x = u64::from(self.x) * 48271 % 2147483647;
+        self.x = x as u32;
+        x as usize % n
+    }
+
+    // One of list.
+    pub fn one_of(&mut self, list: &[u64]) -> u64
+        requires { 0 < length list.now }
+    {
+        list[self.below(list.len())]
+    }
+
+    // One of list or, as often, one of other.
+    pub fn either(&mut self, list: &[u64], other: &[u64]) -> u64
+        requires { (0 < length list.now) × (0 < length other.now) }
+    {
+        let chosen = if self.below(2) == 0 { list } else { other };
+        self.one_of(chosen)
+    }
 }

@@ -1,101 +1,113 @@
-// What is counted, and the lines that say it. There is a place for each count; places 0 to 3 are those of the answers,
-// 1 for visible and 2 more for a conflict.
-ghost use Rattle.std.specs.Prelude.{◌<◌};
+// What is counted, and the lines that say it.
+ghost use Rattle.std.specs.Prelude.{◌≡◌, ◌+◌, ◌<◌, ◌≤◌};
 
-use std::io;
-
-// The lists of the case were not judged good.
-pub const REFUSED: usize = 4;
-
-// The creator is aborted.
-pub const ABORTED: usize = 5;
-
-// The creator is not in the status list.
-pub const UNLISTED: usize = 6;
-
-// The creator is the current transaction.
-pub const OWN: usize = 7;
-
-// The deleter is the current transaction.
-pub const OWN_STAMP: usize = 8;
-
-// The creator is the seen one.
-pub const SEEN: usize = 9;
-
-// Claim's test says something else than the ported one.
-pub const OTHER_CLAIM: usize = 10;
-
-// A character of the list that is no answer.
-pub const NO_ANSWER: usize = 11;
-
-// All cases.
-pub const CASES: usize = 12;
-
-// The answer is not the recorded one.
-pub const DIFFER: usize = 13;
-
-// How many places there are.
-pub const PLACES: usize = 14;
-
-pub type Counts = [u64; PLACES];
+use crate::answer::Answer;
+use crate::case::Outcome;
+use std::fmt;
 
 // How many answers the list is to have.
 const EXPECTED: u64 = 120000;
 
-// A count is at most the length of the list, and so never wraps.
-pub fn note(counts: &mut Counts, place: usize, holds: bool)
-    requires { place < 14 }
-{
-    if holds {
-        counts[place] = counts[place].wrapping_add(1);
+// How many cases there are, and how many of them are of a kind.
+#[derive(Clone, Copy)]
+pub struct Counts {
+    pub cases: u64,
+    // The answer is not the recorded one.
+    differ: u64,
+    // By their answer.
+    neither: u64,
+    visible: u64,
+    conflict: u64,
+    both: u64,
+    // The creator is aborted; it is not in the status list; it is the current transaction; it is the seen one.
+    aborted: u64,
+    unlisted: u64,
+    own: u64,
+    seen: u64,
+    // The deleter is the current transaction.
+    own_stamp: u64,
+    // The lists of the case were not judged good.
+    refused: u64,
+    // Claim's test says something else than the ported one.
+    other_claim: u64,
+    // The character of the list is no answer.
+    no_answer: u64,
+    ghost within: { (differ ≤ cases) × (neither ≤ cases) × (visible ≤ cases) × (conflict ≤ cases) × (both ≤ cases) × (aborted ≤ cases) × (unlisted ≤ cases) × (own ≤ cases) × (seen ≤ cases) × (own_stamp ≤ cases) × (refused ≤ cases) × (other_claim ≤ cases) × (no_answer ≤ cases) },
+}
+
+impl Counts {
+    // No cases.
+    pub fn new() -> Self
+        ensures { result.cases ≡ 0 }
+    {
+        Counts {
+            cases: 0,
+            differ: 0,
+            neither: 0,
+            visible: 0,
+            conflict: 0,
+            both: 0,
+            aborted: 0,
+            unlisted: 0,
+            own: 0,
+            seen: 0,
+            own_stamp: 0,
+            refused: 0,
+            other_claim: 0,
+            no_answer: 0,
+        }
+    }
+
+    // Counts a case by what it comes to, which is None where its lists were refused, and by the recorded answer.
+    pub fn add(&mut self, found: Option<Outcome>, recorded: Option<Answer>)
+        requires { self.old.cases < u64.MAX }
+        ensures { self.new.cases ≡ self.old.cases + 1 }
+    {
+        self.cases += 1;
+        let answer = found.map(|outcome| outcome.answer);
+        self.no_answer += u64::from(recorded.is_none());
+        self.differ += u64::from(recorded.is_none() || answer != recorded);
+        let Some(outcome) = found else {
+            self.refused += 1;
+            return;
+        };
+        match outcome.answer {
+            Answer::Neither => self.neither += 1,
+            Answer::Visible => self.visible += 1,
+            Answer::Conflict => self.conflict += 1,
+            Answer::Both => self.both += 1,
+        }
+        self.aborted += u64::from(outcome.aborted);
+        self.unlisted += u64::from(outcome.unlisted);
+        self.own += u64::from(outcome.own);
+        self.seen += u64::from(outcome.seen);
+        self.own_stamp += u64::from(outcome.own_stamp);
+        self.other_claim += u64::from(outcome.other_claim);
     }
 }
 
-fn say(rt: &impl Print, n: u64, what: &str) -> io::Result<()> {
-    print!(rt; "{n}{what}")
-}
-
-fn say_answers(rt: &impl Print, counts: &Counts) -> io::Result<()> {
-    say(rt, counts[0], " neither visible nor in conflict\n")?;
-    say(rt, counts[1], " visible\n")?;
-    say(rt, counts[2], " in conflict\n")?;
-    say(rt, counts[3], " visible and in conflict\n")
-}
-
-fn say_ways(rt: &impl Print, counts: &Counts) -> io::Result<()> {
-    say(rt, counts[ABORTED], " creator aborted\n")?;
-    say(rt, counts[UNLISTED], " creator unlisted\n")?;
-    say(rt, counts[OWN], " creator current\n")?;
-    say(rt, counts[OWN_STAMP], " deleter current\n")?;
-    say(rt, counts[SEEN], " creator seen\n")
-}
-
-fn say_faults(rt: &impl Print, counts: &Counts) -> io::Result<()> {
-    say(rt, counts[REFUSED], " lists refused\n")?;
-    say(
-        rt,
-        counts[OTHER_CLAIM],
-        " claim tests that differ from the conflict test\n",
-    )?;
-    say(rt, counts[NO_ANSWER], " characters that are no answer\n")
-}
-
-fn say_length(rt: &impl Print, cases: u64) -> io::Result<()> {
-    if cases < EXPECTED {
-        say(rt, EXPECTED - cases, " answers too few\n")?;
+// The last line is how many cases there are, and how many differ.
+impl fmt::Display for Counts {
+    fn fmt<W: fmt::Write>(&self, f: &mut fmt::Formatter<W>) -> fmt::Result {
+        writeln!(f, "{} neither visible nor in conflict", self.neither)?;
+        writeln!(f, "{} visible", self.visible)?;
+        writeln!(f, "{} in conflict", self.conflict)?;
+        writeln!(f, "{} visible and in conflict", self.both)?;
+        writeln!(f, "{} creator aborted", self.aborted)?;
+        writeln!(f, "{} creator unlisted", self.unlisted)?;
+        writeln!(f, "{} creator current", self.own)?;
+        writeln!(f, "{} deleter current", self.own_stamp)?;
+        writeln!(f, "{} creator seen", self.seen)?;
+        writeln!(f, "{} lists refused", self.refused)?;
+        let claims = self.other_claim;
+        writeln!(f, "{claims} claim tests that differ from the conflict test")?;
+        writeln!(f, "{} characters that are no answer", self.no_answer)?;
+        if self.cases < EXPECTED {
+            writeln!(f, "{} answers too few", EXPECTED - self.cases)?;
+        }
+        if EXPECTED < self.cases {
+            writeln!(f, "{} answers too many", self.cases - EXPECTED)?;
+        }
+        write!(f, "{} cases, {} differ", self.cases, self.differ)
     }
-    if EXPECTED < cases {
-        say(rt, cases - EXPECTED, " answers too many\n")?;
-    }
-    Ok(())
-}
-
-// Writes all counts; the last line is how many cases there are, and how many differ.
-pub fn report(rt: &impl Print, counts: &Counts) -> io::Result<()> {
-    say_answers(rt, counts)?;
-    say_ways(rt, counts)?;
-    say_faults(rt, counts)?;
-    say_length(rt, counts[CASES])?;
-    say(rt, counts[CASES], " cases, ")?;
-    say(rt, counts[DIFFER], " differ\n")
 }

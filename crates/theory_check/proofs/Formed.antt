@@ -25,8 +25,7 @@ use Rattle.theory_tree.proofs.Read.{cells_of, run, read}
 use Rattle.theory_tree.proofs.Enter.{roots_is, tree-rest}
 use Rattle.theory_walks.proofs.Paging.{leaf_at, inner_at, keys_of_lem, children_of_lem}
 use Rattle.theory_check.proofs.Paging.{LeafFits, InnerFits, Climbs, climbs_append, leaf_sound, inner_sound_lem, sound_leaf_lem, sound_inner_lem}
-use Rattle.theory_check.proofs.Hanging.{ends, Hung, hung, links, holds, later}
-use Rattle.theory_check.proofs.Hanging.{links_all, linked_all, pages_of_lem, ends_of, none_twice, twice_none}
+use Rattle.theory_check.proofs.Hanging.{ends, Hung, hung, links, holds, later, links_all, linked_all, pages_of_lem, ends_of, none_twice, twice_none}
 use Rattle.store.proofs.Tests.{and_both}
 
 -- the keys of a run's entries

@@ -1,5 +1,7 @@
 -- One page: the judgement of a leaf and of an internal page under bounds, said of its rows and of its keys, both ways.
 -- Assumes nothing.
+use Rattle.std.proofs.Common.{Result, Ok, Err}
+use Rattle.row.specs.declared.Fault.{Fault}
 use mathlib.Core.Path.{◌≡◌, refl, ◌∙◌}
 use mathlib.Core.Bool.{Bool, true, false, ◌&&◌, ◌||◌, false≢true}
 use mathlib.Core.List.{List, [], ◌∷◌, ◌++◌, map}
@@ -16,9 +18,7 @@ use Rattle.row.specs.declared.Cell.{Cell}
 use Rattle.leaf.specs.Cells.{cells, fold_cells, in_order, judge_cells, judge_leaf, on_judged}
 use Rattle.row.specs.Fault.{structural}
 use Rattle.leaf.specs.Rows.{Row, row_of, rows}
-use Rattle.leaf.specs.declared.Judged.{Judged}
 use Rattle.inner.specs.Inner.{keys_of, never_falls, judge_inner}
-use Rattle.inner.specs.declared.InnerJudged.{InnerJudged}
 use Rattle.tree.specs.Descend.{on_inner}
 use Rattle.tree_check.specs.Check.{within, all_within, cells_within, sound_leaf, sound_inner}
 use Rattle.theory_tree.specs.Shape.{All, KeysIn, NotAfter, Sorted}
@@ -114,11 +114,11 @@ pub record LeafFits (lo hi : ℕ) (pg : List ℕ) : Type 0 where
   pub keys : KeysIn lo hi (rows pg)
   pub sorted : Sorted (rows pg)
 
-judged_type : (p : ℕ) (pg : List ℕ) (e : ℕ) → judge_leaf pg p ≡ Judged.Ok e → node_type pg ≡ 1
+judged_type : (p : ℕ) (pg : List ℕ) (e : ℕ) → judge_leaf pg p ≡ Ok e → node_type pg ≡ 1
 unfolding judge_leaf
 judged_type p pg e h = by_type (eqb (node_type pg) 1) refl h
   where
-    by_type : (b : Bool) → eqb (node_type pg) 1 ≡ b → pick b (judge_cells pg p 0 0 (cell_count pg) 12) (Judged.Bad (structural p)) ≡ Judged.Ok e → node_type pg ≡ 1
+    by_type : (b : Bool) → eqb (node_type pg) 1 ≡ b → pick b (judge_cells pg p 0 0 (cell_count pg) 12) (Err (structural p)) ≡ Ok e → node_type pg ≡ 1
     by_type true t q = eqb-true (node_type pg) 1 t
     by_type false t q = absurd (let z : ◌≡◌ {A = ℕ} 0 1 = cc in omega arith)
 
@@ -126,10 +126,10 @@ pub leaf-fits : (lo hi p : ℕ) (pg : List ℕ) → lo ≤ hi → cells_within p
 unfolding cells_within
 leaf-fits lo hi p pg h c = by_judged (judge_leaf pg p) refl c
   where
-    by_judged : (j : Judged) → judge_leaf pg p ≡ j → on_judged (λ e. fold_cells (λ b c. b && within lo hi c.key) true (cells pg)) (λ f. false) j ≡ true
+    by_judged : (j : Result ℕ Fault) → judge_leaf pg p ≡ j → on_judged (λ e. fold_cells (λ b c. b && within lo hi c.key) true (cells pg)) (λ f. false) j ≡ true
         → LeafFits lo hi pg
-    by_judged (Judged.Bad f) q u = absurd (false≢true u)
-    by_judged (Judged.Ok e) q u =
+    by_judged (Err f) q u = absurd (false≢true u)
+    by_judged (Ok e) q u =
         let t = judged-leaf p pg e q in
         let g = (rising_sorted pg 0 0 (cells pg) t.rising).1 in
         record {
@@ -201,7 +201,7 @@ inner_fits lo hi p pg h e =
     by_test (eqb (node_type pg) 0 && (leb 1 (cell_count pg) && (leb (cell_count pg) 510 && never_falls 0 (keys_of pg)))) refl e
   where
     by_test : (b : Bool) → (eqb (node_type pg) 0 && (leb 1 (cell_count pg) && (leb (cell_count pg) 510 && never_falls 0 (keys_of pg)))) ≡ b
-        → on_inner (λ n. all_within lo hi (keys_of pg)) (λ f. false) (pick b (InnerJudged.Ok (cell_count pg)) (InnerJudged.Bad (structural p))) ≡ true → InnerFits lo hi pg
+        → on_inner (λ n. all_within lo hi (keys_of pg)) (λ f. false) (pick b (Ok (cell_count pg)) (Err (structural p))) ≡ true → InnerFits lo hi pg
     by_test false t q = absurd (false≢true q)
     by_test true t q =
         let a = and_both (eqb (node_type pg) 0) (leb 1 (cell_count pg) && (leb (cell_count pg) 510 && never_falls 0 (keys_of pg))) t in

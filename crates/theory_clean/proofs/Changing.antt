@@ -1,5 +1,6 @@
 -- Leaves of a tree that are changed in place, one after another: each change sees its page as it was, and the tree afterwards is
 -- the one with the rows of its leaves changed. Assumes nothing.
+use Rattle.std.proofs.Common.{Ok}
 use mathlib.Core.Path.{◌≡◌, refl, sym, ap, ◌∙◌, subst}
 use mathlib.Core.Bool.{Bool, true, false}
 use mathlib.Core.List.{List, [], ◌∷◌, ◌++◌, map, append-nil}
@@ -16,7 +17,6 @@ use Rattle.row.specs.declared.Cell.{Cell}
 use Rattle.leaf.specs.Cells.{cells, judge_leaf}
 use Rattle.leaf.specs.Rows.{Row, AllFit, row_of, rows, row_bytes, rows_bytes, write_rows}
 use Rattle.leaf.specs.RowFacts.{Sound}
-use Rattle.leaf.specs.declared.Judged.{Judged}
 use Rattle.tree_grow.specs.Steps.Safe.{There}
 use Rattle.theory_tree.specs.Pages.{Pages, leaf_page, inner_page}
 use Rattle.theory_tree.specs.View.{said, view}
@@ -115,7 +115,7 @@ each_page P w par nxt (pair a k b) c i h g =
 -- the page pg, which was judged as page p, its cells ending at e
 pub record LeafIs (p e : ℕ) (pg : List ℕ) : Type 0 where
   pub type : node_type pg ≡ 1
-  pub judged : judge_leaf pg p ≡ Judged.Ok e
+  pub judged : judge_leaf pg p ≡ Ok e
   pub sound : Sound pg e
 
 -- the pool is of bytes and has the pages in use

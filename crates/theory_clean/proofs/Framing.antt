@@ -1,4 +1,6 @@
 -- Remove and vacuum store to leaves of their tree, and so change no other page. Assumes nothing.
+use Rattle.std.proofs.Common.{Result, Ok, Err}
+use Rattle.row.specs.declared.Fault.{Fault}
 use mathlib.Core.Path.{◌≡◌, refl, sym, ap, ◌∙◌, subst}
 use mathlib.Core.Bool.{Bool, true, false}
 use mathlib.Core.List.{List, [], ◌∷◌, ◌++◌, map, map-append}
@@ -20,8 +22,6 @@ use Rattle.leaf.specs.Rows.{rows}
 use Rattle.call_answers.specs.Answer.{Ended, Outcome}
 use Rattle.call_clean.specs.Remove.{count_along, removed_along, remove_call}
 use Rattle.call_clean.specs.Vacuum.{judged_along, vacuumed_along, vacuum_call}
-use Rattle.call_clean.specs.declared.remove.ChainCount.{ChainCount}
-use Rattle.call_clean.specs.declared.vacuum.ChainJudged.{ChainJudged}
 use Rattle.tree_grow.specs.Steps.Safe.{There}
 use Rattle.theory_tree.specs.View.{view}
 use Rattle.theory_tree.specs.Shape.{Shape, leaf, node, pair, pages_in, first, All, NoneTwice, WellFormed}
@@ -219,12 +219,12 @@ remove_elsewhere s st t B w key x low out = by_pool (good_pool s st) refl
     pool_of : {e : Ended (Outcome ℕ)} → e ≡ remove_call s st key → page e.pool x ≡ page s x → page (remove_call s st key).pool x ≡ page s x
     pool_of q h = ap (λ (e : Ended (Outcome ℕ)). page e.pool x) (sym q) ∙ h
 
-    by_count : good_pool s st ≡ true → (c : ChainCount) → c ≡ count_along s st.used (leaf_of key t) key → page (remove_call s st key).pool x ≡ page s x
-    by_count good (ChainCount.Ok n) q =
+    by_count : good_pool s st ≡ true → (c : Result ℕ Fault) → c ≡ count_along s st.used (leaf_of key t) key → page (remove_call s st key).pool x ≡ page s x
+    by_count good (Ok n) q =
         pool_of (remove-call s st key refl (remove-done s st key refl good refl (descend_search s st.root st.used t w key) q refl refl) refl)
         (search_off st.used (removal key st.used) (λ a p y. sym (remove-none st.used key p y 0 (omega arith))) (remove_turns key st.used)
         s st.root t w B (pool-is s st good).room key st.used tt x (mem-out x (pages_in t) out))
-    by_count good (ChainCount.Bad f) q =
+    by_count good (Err f) q =
         pool_of (remove-call s st key refl (remove-ill s st key refl good refl (descend_search s st.root st.used t w key) q refl refl) refl) refl
 
     by_pool : (b : Bool) → b ≡ good_pool s st → page (remove_call s st key).pool x ≡ page s x
@@ -267,12 +267,12 @@ vacuum_elsewhere s st t B w bound ss x low out = by_pool (good_pool s st) refl
         (λ d p y. ap (λ (r : Ended ℕ). r.pool) (sym (vacuum-none (lookup ss) bound st.used d p y 0 (omega arith))))
         (vacuum_turns (lookup ss) bound st.used) s st.root t w B (pool-is s st good).room 0 st.used 0 x (mem-out x (pages_in t) out))
 
-    by_chain : good_pool s st ≡ true → good_statuses ss ≡ true → (c : ChainJudged) → c ≡ judged_along s st.used (first t)
+    by_chain : good_pool s st ≡ true → good_statuses ss ≡ true → (c : Result Unit Fault) → c ≡ judged_along s st.used (first t)
         → page (vacuum_call s st ss bound).pool x ≡ page s x
-    by_chain good listed ChainJudged.Ok q =
+    by_chain good listed (Ok tt) q =
         pool_of (vacuum-call s st bound ss
         (vacuum-done s st bound ss refl good refl listed refl (descend-first s st.root st.used t w) q refl refl) refl) (swept good)
-    by_chain good listed (ChainJudged.Bad f) q =
+    by_chain good listed (Err f) q =
         pool_of (vacuum-call s st bound ss
         (vacuum-ill s st bound ss refl good refl listed refl (descend-first s st.root st.used t w) q refl refl) refl) refl
 

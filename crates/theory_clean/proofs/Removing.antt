@@ -1,5 +1,6 @@
 -- Remove on a well-formed tree: it drops every version of its key and counts them, and the tree with the other rows is
 -- well-formed. Assumes nothing.
+use Rattle.std.proofs.Common.{Ok}
 use mathlib.Core.Path.{◌≡◌, refl, sym, ap, ◌∙◌}
 use mathlib.Core.Bool.{Bool, true, false, not}
 use mathlib.Core.List.{List}
@@ -16,11 +17,9 @@ use Rattle.page.specs.Pool.{good_pool}
 use Rattle.page.specs.declared.pool.State.{State}
 use Rattle.leaf.specs.Cells.{judge_leaf}
 use Rattle.leaf.specs.Rows.{Row, rows, write_rows, only, of_key}
-use Rattle.leaf.specs.declared.Judged.{Judged}
 use Rattle.tree.specs.Chain.{stop, go}
 use Rattle.call_answers.specs.Answer.{done, ended}
 use Rattle.call_clean.specs.Remove.{held_rows, removed_leaf, look_held, count_along, removed_along, remove_call}
-use Rattle.call_clean.specs.declared.remove.ChainCount.{ChainCount}
 use Rattle.theory_tree.specs.View.{view}
 use Rattle.theory_tree.specs.Shape.{Shape, chain, All, WellFormed}
 use Rattle.page.proofs.PoolLaws.{pool-is}
@@ -49,20 +48,20 @@ module _ (key : ℕ) where
   abbrev step : ℕ → ℕ → List ℕ → ℕ
   step n p pg = n + length (held_rows pg key)
 
-  count_says : (n p : ℕ) (pg : List ℕ) (e : ℕ) → judge_leaf pg p ≡ Judged.Ok e → look_held key n p pg ≡ pick (larger key (rows pg)) (stop (step n p pg)) (go (step n p pg))
+  count_says : (n p : ℕ) (pg : List ℕ) (e : ℕ) → judge_leaf pg p ≡ Ok e → look_held key n p pg ≡ pick (larger key (rows pg)) (stop (step n p pg)) (go (step n p pg))
   count_says n p pg e j = rw (j, larger_is key pg)
 
-  count_skips : (n p : ℕ) (pg : List ℕ) (e : ℕ) → judge_leaf pg p ≡ Judged.Ok e → All (λ (r : Row). of_key key r ≡ false) (rows pg) → step n p pg ≡ n
+  count_skips : (n p : ℕ) (pg : List ℕ) (e : ℕ) → judge_leaf pg p ≡ Ok e → All (λ (r : Row). of_key key r ≡ false) (rows pg) → step n p pg ≡ n
   count_skips n p pg e j o =
       let z : length (only (of_key key) (rows pg)) ≡ 0 = ap length (filt_none (of_key key) (rows pg) o) in
       omega arith
 
   module _ (s : List ℕ) (root used : ℕ) (t : Shape) (w : WellFormed (view s) root used t) where
-    counted : count_along s used (leaf_of key t) key ≡ ChainCount.Ok (length (only (of_key key) (chain t)))
+    counted : count_along s used (leaf_of key t) key ≡ Ok (length (only (of_key key) (chain t)))
     unfolding count_along
     counted =
         rw (walk-key (look_held key) key step count_says count_skips s root used t w 0)
-        (ap (λ (n : ℕ). ChainCount.Ok n)
+        (ap (λ (n : ℕ). Ok n)
         (gather_chain step s used (λ n rs. n + length (only (of_key key) rs)) (λ n p pg e j. refl) (λ n. omega arith)
         (λ n xs ys. omega (arith, ap length (filt_app (of_key key) xs ys), length-append (only (of_key key) xs) (only (of_key key) ys)))
         t (at_leaves s root used t w (locs t top) (locs_plug t top)) 0
@@ -95,8 +94,7 @@ module _ (key : ℕ) where
     pub clear_on : (n : ℕ) → larger key (rows (page s p)) ≡ false → next_leaf (page s p) ≡ n → (n ≡ 0 → ⊥)
         → removed_along s used p key (suc m) ≡ removed_along (changed_at others_of cleared clears p s) used n key m
     clear_on n l q z =
-        let k : suc m - 1 ≡ m = omega arith in
-        sym (rw k at (remove_on used key p s low is.judged refl (larger_is key (page s p)) (sym q) (suc m) (omega arith) l z))
+        sym (remove_on used key p s low is.judged refl (larger_is key (page s p)) (sym q) (suc m) {k = m} refl l z)
 
   module _ (s : List ℕ) (root used : ℕ) (t : Shape) (w : WellFormed (view s) root used t) (h : PoolHas used s) where
     abbrev met : List Loc

@@ -1,5 +1,6 @@
 -- Vacuum on a well-formed tree: it drops and clears the versions of every leaf by their fate and counts those dropped, and the
 -- tree with the rows that are kept is well-formed. Assumes nothing.
+use Rattle.std.proofs.Common.{Option, Some, None, Ok}
 use mathlib.Core.Path.{◌≡◌, refl, sym, ap, ◌∙◌}
 use mathlib.Core.Bool.{Bool, true, false}
 use mathlib.Core.List.{List, [], ◌∷◌, ◌++◌, append-nil}
@@ -13,7 +14,6 @@ use Rattle.page.specs.Header.{next_leaf}
 use Rattle.page.specs.Pool.{good_pool}
 use Rattle.page.specs.declared.pool.State.{State}
 use Rattle.row.specs.Write.{stamp_len}
-use Rattle.row.specs.declared.Stamp.{Stamp}
 use Rattle.mvcc.specs.Snapshot.{lookup, good_statuses, Statuses}
 use Rattle.mvcc.specs.Vacuum.{fate}
 use Rattle.mvcc.specs.declared.vacuum.Fate.{Fate}
@@ -21,7 +21,6 @@ use Rattle.leaf.specs.Rows.{Row, AllFit, rows, rows_bytes, write_rows}
 use Rattle.leaf_vacuum.specs.Vacuum.{cleared_row, on_fate, kept_rows, dropped_rows, changes_rows, vacuumed_leaf}
 use Rattle.call_answers.specs.Answer.{done, ended, Ended}
 use Rattle.call_clean.specs.Vacuum.{look_leaf, judged_along, vacuumed_along, vacuum_call}
-use Rattle.call_clean.specs.declared.vacuum.ChainJudged.{ChainJudged}
 use Rattle.theory_tree.specs.View.{view}
 use Rattle.theory_tree.specs.Shape.{Shape, leaf, node, pair, chain, first, All, KeysIn, Sorted, NotAfter, WellFormed}
 use Rattle.page.proofs.PoolLaws.{pool-is}
@@ -38,9 +37,9 @@ use Rattle.theory_clean.proofs.Changing.{LeafIs, PoolHas, HasBytes, Changed, unc
 
 -- ---- rows by their fate
 
-cleared_short : (x : Stamp) → stamp_len Stamp.Absent ≤ stamp_len x
-cleared_short Stamp.Absent = omega arith
-cleared_short (Stamp.By t) = omega arith
+cleared_short : (x : Option ℕ) → stamp_len None ≤ stamp_len x
+cleared_short None = omega arith
+cleared_short (Some t) = omega arith
 
 module _ (x : ℕ → ℕ) (bound : ℕ) where
   abbrev kept : List Row → List Row
@@ -173,13 +172,12 @@ module _ (x : ℕ → ℕ) (bound : ℕ) where
         → vacuumed_along s used p x bound (suc m) d ≡ vacuumed_along (changed_at kept swept sweeps p s) used n x bound m (step d p (page s p))
     unfolding vacuumed_leaf
     sweep_on n q z =
-        let k : suc m - 1 ≡ m = omega arith in
-        sym (rw k at (vacuum_on x bound used d p s low refl is.judged refl refl (sym q) (suc m) (omega arith) z))
+        sym (vacuum_on x bound used d p s low refl is.judged refl refl (sym q) (suc m) {k = m} refl z)
 
   module _ (s : List ℕ) (root used : ℕ) (t : Shape) (w : WellFormed (view s) root used t) where
-    judged : judged_along s used (first t) ≡ ChainJudged.Ok
+    judged : judged_along s used (first t) ≡ Ok tt
     unfolding judged_along
-    judged = rw (walk_all look_leaf (λ n p pg. n) (λ n p pg e j. rw j) s root used t w 0)
+    judged = rw (walk_all look_leaf (λ n p pg. n) (λ n p pg e j. rw j) s root used t w tt)
 
     abbrev after : List ℕ
     after = changed kept swept sweeps (locs t top) s

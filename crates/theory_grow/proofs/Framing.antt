@@ -50,8 +50,7 @@ use Rattle.tree_grow.proofs.Entering.{enter_top, enter-room, enter_over}
 use Rattle.tree_grow.proofs.Stepping.{fresh_long, fresh_here, fresh_other, halved-root, halved-used, top_used, top_length, top_other, top_right}
 use Rattle.tree_room.proofs.Keeping.{divided-leaf}
 use Rattle.theory_tree.proofs.Contexts.{Ctx, top, in_l, in_r, under, plug, pre_g, post_g, par_c, nxt_c, HoldsC, cut, Grown as Raised, up}
-use Rattle.theory_tree.proofs.Enter.{Entry, Both, OnPage, OnTop, Parts, dv, has, ins_own, parts, rep_c_frame, roots_is}
-use Rattle.theory_tree.proofs.Enter.{entry_in_l, entry_in_r, entry_page, entry_half, entry_top, up_room, up_half}
+use Rattle.theory_tree.proofs.Enter.{Entry, Both, OnPage, OnTop, Parts, dv, has, ins_own, parts, rep_c_frame, roots_is, entry_in_l, entry_in_r, entry_page, entry_half, entry_top, up_room, up_half}
 use Rattle.theory_tree.proofs.Entries.{ins_after, kids, path}
 use Rattle.theory_tree.proofs.Frame.{Agree, roots_all, out-flip}
 use Rattle.theory_tree.proofs.Leaf.{leaf_pool, entry_leaf}

@@ -1,5 +1,8 @@
 -- A leaf divides, its right side is entered above, and a root other than 0 keeps its number: the tree stays well-formed.
 -- Assumes nothing.
+use Rattle.row.specs.declared.CellFault.{CellFault}
+use Rattle.std.proofs.Common.{Result, Ok, Err}
+use Rattle.row.specs.declared.Cell.{Cell}
 use mathlib.Core.Path.{◌≡◌, refl, sym, ap, ◌∙◌, subst}
 use mathlib.Core.Bool.{Bool, true, false}
 use mathlib.Core.List.{List, [], ◌∷◌, ◌++◌, map}
@@ -19,7 +22,6 @@ use Rattle.page.specs.Page.{page}
 use Rattle.page.specs.Pool.{next_page, allocated, with_fresh, Grown, grown}
 use Rattle.page.specs.declared.pool.State.{State}
 use Rattle.row.specs.Read.{cell_at}
-use Rattle.row.specs.declared.read.CellRead.{CellRead}
 use Rattle.leaf.specs.Cells.{on_cell, cells_of}
 use Rattle.leaf.specs.Rows.{Row, AllFit, row_of, rows_of, rows_bytes}
 use Rattle.tree.specs.Climb.{path_of}
@@ -65,9 +67,9 @@ unfolding cells_of
 first_from zero at pg z rs e = absurd (let q : ◌≡◌ {A = ℕ} 0 (suc (length rs)) = ap (λ (l : List Row). length l) e in omega arith)
 first_from (suc n) at pg z rs e = by_read (cell_at pg at) refl e
   where
-    by_read : (r : CellRead) → cell_at pg at ≡ r → map (row_of pg) (on_cell (λ c. c ∷ cells_of pg n c.next) (λ kind. []) r) ≡ z ∷ rs → rank_at pg at ≡ z.key
-    by_read (CellRead.Bad kind) h q = absurd (let d : ◌≡◌ {A = ℕ} 0 (suc (length rs)) = ap (λ (l : List Row). length l) q in omega arith)
-    by_read (CellRead.Got c) h q = sym (cell_fields pg at c h).key-is ∙ ap key_first q
+    by_read : (r : Result Cell CellFault) → cell_at pg at ≡ r → map (row_of pg) (on_cell (λ c. c ∷ cells_of pg n c.next) (λ kind. []) r) ≡ z ∷ rs → rank_at pg at ≡ z.key
+    by_read (Err kind) h q = absurd (let d : ◌≡◌ {A = ℕ} 0 (suc (length rs)) = ap (λ (l : List Row). length l) q in omega arith)
+    by_read (Ok c) h q = sym (cell_fields pg at c h).key-is ∙ ap key_first q
 
 -- ---- the page at the head of a tree that a pool holds
 

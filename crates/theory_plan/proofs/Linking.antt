@@ -1,5 +1,6 @@
 -- The plan of a leaf that divides, on a well-formed tree: every child that gets a new parent link is in use; and what the plan
 -- says of the pages that divide is what the tree that grew says. Assumes nothing.
+use Rattle.std.proofs.Common.{Ok}
 use mathlib.Core.Path.{◌≡◌, refl, sym, ap, ◌∙◌, subst}
 use mathlib.Core.Bool.{Bool, true, false}
 use mathlib.Core.List.{List, [], ◌∷◌, ◌++◌}
@@ -21,9 +22,7 @@ use Rattle.tree.specs.Climb.{Way, climb_of, path_of}
 use Rattle.tree_grow.specs.Grow.{place_in}
 use Rattle.tree_grow.specs.Plan.{full_pages, division_of, first_moved, relinks_in, keeps_number, relinks, in_use, plan_of}
 use Rattle.tree_grow.specs.declared.plan.Division.{Division}
-use Rattle.tree_grow.specs.declared.plan.Links.{Links}
-use Rattle.tree_grow.specs.declared.plan.Plan.{Plan}
-use Rattle.tree_room.specs.Room.{fitting, dividing, planned, leaf_plan}
+use Rattle.tree_room.specs.Room.{fitting, dividing, leaf_plan}
 use Rattle.tree_room.specs.declared.Planned.{Planned}
 use Rattle.theory_tree.specs.View.{view}
 use Rattle.theory_tree.specs.Shape.{Shape, leaf, node, pair, pages_in, head, rest, first, All, WellFormed}
@@ -41,7 +40,7 @@ use Rattle.theory_plan.proofs.Paths.{path_first}
 
 -- ---- children in use
 
-use_all : (used : ℕ) (l : List ℕ) → All (λ q. q < used) l → in_use used l ≡ Links.InUse
+use_all : (used : ℕ) (l : List ℕ) → All (λ q. q < used) l → in_use used l ≡ (Ok tt)
 unfolding in_use
 use_all used [] h = refl
 use_all used (q ∷ l) h = rw (lt-ltb q used h.0) (use_all used l h.1)
@@ -111,7 +110,7 @@ module _ (used : ℕ) (s : List ℕ) (P N : ℕ) where
       by_count false e h = tt
 
 pub plan_ok : (s : List ℕ) (root used : ℕ) (c : Ctx) (p : ℕ) (rs : List Row) → WellFormed (view s) root used (plug c (leaf p rs))
-    → plan_of s used p (path c) ≡ Plan.Ok (division_of (path c) s)
+    → plan_of s used p (path c) ≡ Ok (division_of (path c) s)
 unfolding plan_of
 plan_ok s root used c p rs f =
     rw (use_all used (relinks s p (path c)) (relinks-low used s 0 0 p c (leaf p rs) (unplug_rep (view s) 0 0 c (leaf p rs) f.rep).0 f.below))
@@ -178,12 +177,12 @@ leaf-grown s root used c p rs f l r k q u =
 
 module _ (st : State) (p : ℕ) (cut : Cut) (s ps : List ℕ) (climbs : climb_of s st.used st.root p 3 ≡ Way.up (p ∷ ps)) where
   -- it fits
-  pub leaf-stays : leaf_plan s st p false cut ≡ planned (fitting (path_of (p ∷ ps)))
+  pub leaf-stays : leaf_plan s st p false cut ≡ Ok (fitting (path_of (p ∷ ps)))
   unfolding leaf_plan
   leaf-stays = rw climbs
 
   -- it would be overfull
-  pub leaf_divides : {d : Division} → plan_of s st.used p ps ≡ Plan.Ok d → leaf_plan s st p true cut ≡ planned (dividing (path_of (p ∷ ps)) cut d)
+  pub leaf_divides : {d : Division} → plan_of s st.used p ps ≡ Ok d → leaf_plan s st p true cut ≡ Ok (dividing (path_of (p ∷ ps)) cut d)
   unfolding leaf_plan
   leaf_divides e = rw (climbs, path_first p ps, path_above p ps, e)
 
@@ -192,6 +191,6 @@ abbrev pub plan_above : Ctx → (p : ℕ) → (over : Bool) → Cut → List ℕ
 plan_above c p over cut s = pick over (dividing (path_of (p ∷ path c)) cut (division_of (path c) s)) (fitting (path_of (p ∷ path c)))
 
 pub leaf_plan-ok : (s : List ℕ) (st : State) (c : Ctx) (p : ℕ) (rs : List Row) → WellFormed (view s) st.root st.used (plug c (leaf p rs))
-    → climb_of s st.used st.root p 3 ≡ Way.up (p ∷ path c) → (over : Bool) (cut : Cut) → leaf_plan s st p over cut ≡ planned (plan_above c p over cut s)
+    → climb_of s st.used st.root p 3 ≡ Way.up (p ∷ path c) → (over : Bool) (cut : Cut) → leaf_plan s st p over cut ≡ Ok (plan_above c p over cut s)
 leaf_plan-ok s st c p rs f climbs true cut = leaf_divides st p cut s (path c) climbs (plan_ok s st.root st.used c p rs f)
 leaf_plan-ok s st c p rs f climbs false cut = leaf-stays st p cut s (path c) climbs

@@ -1,5 +1,7 @@
 -- When a planned leaf has room, and what the room is good for: the tree that grew has at most four levels, and its pages are
 -- in the pool. Assumes nothing.
+use Rattle.std.proofs.Common.{Ok, Err}
+use Rattle.call_answers.specs.declared.Refusal.{Refusal}
 use mathlib.Core.Path.{◌≡◌, refl, sym, ap, ◌∙◌}
 use mathlib.Core.Bool.{Bool, true, false}
 use mathlib.Core.List.{List, ◌∷◌}
@@ -39,12 +41,12 @@ module _ (pages : ℕ) (st : State) (t p : ℕ) (ps : List ℕ) (cut : Cut) (d :
   abbrev plan : Planned
   plan = dividing (path_of (p ∷ ps)) cut d
 
-  pub room-told : room_of pages st t plan ≡ 0 → HasRoom pages st t cut ps d
+  pub room-told : room_of pages st t plan ≡ Ok tt → HasRoom pages st t cut ps d
   room-told e =
       let r = room-is pages st t plan e refl in
       record {
         cuts = r.cuts;
-        shallow = λ o k. let z : 11 ≡ room_of pages st t plan = room-deep pages st t plan refl (sym r.cuts) refl o (ap suc k) in omega arith;
+        shallow = λ o k. let z : Err Refusal.TooDeep ≡ room_of pages st t plan = room-deep pages st t plan refl (sym r.cuts) refl o (ap suc k) in cc;
         asked = r.asked;
       }
 

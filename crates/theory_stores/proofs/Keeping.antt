@@ -1,4 +1,5 @@
 -- What is made of bytes holds bytes: the words in which stores are said, each once. Assumes nothing.
+use Rattle.std.proofs.Common.{Option, Some, None}
 use mathlib.Core.Path.{◌≡◌, refl}
 use mathlib.Core.List.{List, [], ◌∷◌, ◌++◌}
 use Prim.Native.Nat.{ℕ, zero, suc, ◌+◌, ◌-◌, ◌*◌, ◌/◌, ◌%◌, ◌<◌}
@@ -11,7 +12,6 @@ use Rattle.page.specs.Key.{flip, key_bytes}
 use Rattle.page.specs.Page.{set_page}
 use Rattle.row.specs.Write.{stamp_len, pointer_len, stamp_bytes, pointer_bytes, head_bytes, cell_bytes}
 use Rattle.row.specs.declared.Pointer.{Pointer}
-use Rattle.row.specs.declared.Stamp.{Stamp}
 use Rattle.store.proofs.PartLaws.{bytes-part}
 
 -- ---- lists
@@ -89,13 +89,14 @@ bytes-set-page p x s b h =
 
 -- ---- a cell
 
-bytes-stamp : (x : Stamp) → AreBytes (stamp_bytes x)
-bytes-stamp Stamp.Absent = bytes_more 0 [] (omega arith) bytes-none
-bytes-stamp (Stamp.By t) = bytes_more 1 (bytes_le 8 t) (omega arith) (bytes-number 8 t)
+bytes-stamp : (x : Option ℕ) → AreBytes (stamp_bytes x)
+bytes-stamp None = bytes_more 0 [] (omega arith) bytes-none
+bytes-stamp (Some t) = bytes_more 1 (bytes_le 8 t) (omega arith) (bytes-number 8 t)
 
-bytes-pointer : (x : Pointer) → AreBytes (pointer_bytes x)
-bytes-pointer Pointer.Absent = bytes_more 0 [] (omega arith) bytes-none
-bytes-pointer (Pointer.At p t) = bytes_more 1 (bytes_le 4 p ++ bytes_le 2 t) (omega arith) (bytes-append (bytes_le 4 p) (bytes_le 2 t) (bytes-number 4 p) (bytes-number 2 t))
+bytes-pointer : (x : Option Pointer) → AreBytes (pointer_bytes x)
+bytes-pointer None = bytes_more 0 [] (omega arith) bytes-none
+bytes-pointer (Some p) =
+    bytes_more 1 (bytes_le 4 p.page ++ bytes_le 2 p.slot) (omega arith) (bytes-append (bytes_le 4 p.page) (bytes_le 2 p.slot) (bytes-number 4 p.page) (bytes-number 2 p.slot))
 
 bytes-head : (key n creator : ℕ) → AreBytes (head_bytes key n creator)
 unfolding head_bytes
@@ -104,7 +105,7 @@ bytes-head key n creator =
     (bytes-append (bytes_le 4 n) (129 ∷ bytes_le 8 creator) (bytes-number 4 n) (bytes_more 129 (bytes_le 8 creator) (omega arith) (bytes-number 8 creator)))
 
 -- a cell is bytes where its data is
-pub bytes-cell : (key creator : ℕ) (x : Stamp) (y : Pointer) (body : List ℕ) → AreBytes body → AreBytes (cell_bytes key creator x y body)
+pub bytes-cell : (key creator : ℕ) (x : Option ℕ) (y : Option Pointer) (body : List ℕ) → AreBytes body → AreBytes (cell_bytes key creator x y body)
 unfolding cell_bytes
 bytes-cell key creator x y body B =
     let n = 9 + stamp_len x + pointer_len y + length body in

@@ -41,8 +41,7 @@ use Rattle.theory_tree.proofs.Says.{InnerSays, leaf_says, inner_says}
 use Rattle.theory_tree.proofs.Links.{set_twice}
 use Rattle.theory_stores.proofs.Keeping.{bytes-append, bytes-zeros, bytes-number, bytes-field, bytes-pad, bytes-spliced, bytes-set-page}
 use Rattle.theory_stores.proofs.Viewing.{view-page, view-set, said_parent, said-root, view-linked, view-linked_both, view_fresh}
-use Rattle.theory_stores.proofs.Entering.{says_children, says_count, place_in_lem, entry_long, said_entry, said-left, said-right}
-use Rattle.theory_stores.proofs.Entering.{top_long, said_top, top_in_long, said_top_in}
+use Rattle.theory_stores.proofs.Entering.{says_children, says_count, place_in_lem, entry_long, said_entry, said-left, said-right, top_long, said_top, top_in_long, said_top_in}
 use Rattle.store.proofs.PartLaws.{bytes-part}
 
 -- ---- bytes of the pages that are made

@@ -1,5 +1,7 @@
 -- Two lists that are the same from some byte on hold the same cells, rows, keys and children there: why a store to a page's
 -- header changes no more of it. Assumes nothing.
+use Rattle.row.specs.declared.CellFault.{CellFault}
+use Rattle.std.proofs.Common.{Result, Ok, Err}
 use mathlib.Core.Path.{◌≡◌, refl, ap₂}
 use mathlib.Core.Bool.{Bool, true, false}
 use mathlib.Core.List.{List, [], ◌∷◌, map}
@@ -10,7 +12,6 @@ use Rattle.store.specs.Le.{le_at, put_at}
 use Rattle.page.specs.Header.{cell_count}
 use Rattle.row.specs.Read.{stamp_in, pointer_in, pointer_place, data_place, flag_bad, head_fault, data_fault, cell_in, payload_at, cell_at}
 use Rattle.row.specs.declared.Cell.{Cell}
-use Rattle.row.specs.declared.read.CellRead.{CellRead}
 use Rattle.leaf.specs.Cells.{on_cell, cells_of}
 use Rattle.leaf.specs.Rows.{Row, row_of, rows_of, rows}
 use Rattle.inner.specs.Inner.{key_at, child_at}
@@ -106,10 +107,10 @@ module _ (a : ℕ) (x y : List ℕ) (same : Tail a x y) where
   tail_rows_of zero at h = refl
   tail_rows_of (suc n) at h = rw (tail_cell at h) (by_read (cell_at y at) refl (λ c l. tail_rows_of n c.next l))
     where
-      by_read : (r : CellRead) → cell_at y at ≡ r → ((c : Cell) → a ≤ c.next → rows_of x n c.next ≡ rows_of y n c.next)
+      by_read : (r : Result Cell CellFault) → cell_at y at ≡ r → ((c : Cell) → a ≤ c.next → rows_of x n c.next ≡ rows_of y n c.next)
           → map (row_of x) (on_cell (λ c. c ∷ cells_of x n c.next) (λ kind. []) r) ≡ map (row_of y) (on_cell (λ c. c ∷ cells_of y n c.next) (λ kind. []) r)
-      by_read (CellRead.Bad kind) e ih = refl
-      by_read (CellRead.Got c) e ih =
+      by_read (Err kind) e ih = refl
+      by_read (Ok c) e ih =
           let p = cell_placed y at c e in
           ap₂ (λ (r : Row) (l : List Row). r ∷ l) (tail_row c (omega arith)) (ih c (omega arith))
 

@@ -7,7 +7,7 @@ use Rattle.leaf.specs.Rows.{Row, only, of_key}
 use Rattle.theory_tree.specs.Shape.{All}
 use Rattle.theory_tree.specs.Versions.{of_version, arrivals, or_else, when, last_of, merge, best}
 use mathlib.Core.List.{List, [], ◌∷◌, ◌++◌, append_assoc, append-nil}
-use mathlib.Core.Option.{Option, none, some}
+use Rattle.std.proofs.Common.{Option, None, Some}
 use Prim.Native.Nat.{ℕ, ◌≤◌, ◌<◌}
 use native.Mathlib.Omega.{arith}
 use lib.Dec.{eqb, ltb}
@@ -55,8 +55,8 @@ ver_removed k c (x ∷ xs) = go (eqb x.key k) refl (ver_removed k c xs)
 
 -- the choice, told by the arrivals of the key alone
 abbrev pub Chosen : (Row → Bool) → ℕ → List Row → Option Row → Type 0
-Chosen v k l none = (c : ℕ) → last_of v (arrivals k c l) ≡ none
-Chosen v k l (some y) = (last_of v (arrivals k y.creator l) ≡ some y) × ((c : ℕ) → y.creator < c → last_of v (arrivals k c l) ≡ none)
+Chosen v k l None = (c : ℕ) → last_of v (arrivals k c l) ≡ None
+Chosen v k l (Some y) = (last_of v (arrivals k y.creator l) ≡ Some y) × ((c : ℕ) → y.creator < c → last_of v (arrivals k c l) ≡ None)
 
 -- the arrivals with one more row in front
 last_skip : (v : Row → Bool) (k c : ℕ) (x : Row) (xs : List Row) → of_key k x && v x ≡ false → last_of v (arrivals k c (x ∷ xs)) ≡ last_of v (arrivals k c xs)
@@ -67,8 +67,8 @@ last_skip v k c x xs = go (eqb x.key k) refl (eqb x.creator c) refl (v x) refl (
     go false ea b eb d ed o eo h = rw ea
     go true ea false eb d ed o eo h = rw (ea, eb)
     go true ea true eb true ed o eo h = absurd (let z : ◌≡◌ {A = ℕ} 0 1 = cc in omega arith)
-    go true ea true eb false ed none eo h = rw (ea, eb, ed, eo)
-    go true ea true eb false ed (some y) eo h = rw (ea, eb, ed, eo)
+    go true ea true eb false ed None eo h = rw (ea, eb, ed, eo)
+    go true ea true eb false ed (Some y) eo h = rw (ea, eb, ed, eo)
 
 last-other : (v : Row → Bool) (k c : ℕ) (x : Row) (xs : List Row) → (x.creator ≡ c → ⊥) → last_of v (arrivals k c (x ∷ xs)) ≡ last_of v (arrivals k c xs)
 last-other v k c x xs h = go (eqb x.key k) refl
@@ -78,13 +78,13 @@ last-other v k c x xs h = go (eqb x.key k) refl
     go false ea = rw ea
 
 last_own : (v : Row → Bool) (k : ℕ) (x : Row) (xs : List Row) → of_key k x ≡ true → v x ≡ true
-    → last_of v (arrivals k x.creator (x ∷ xs)) ≡ or_else (last_of v (arrivals k x.creator xs)) (some x)
+    → last_of v (arrivals k x.creator (x ∷ xs)) ≡ or_else (last_of v (arrivals k x.creator xs)) (Some x)
 last_own v k x xs e f = rw (e, eq-eqb x.creator x.creator refl, f)
 
-last-keep : (v : Row → Bool) (k c : ℕ) (x y : Row) (xs : List Row) → last_of v (arrivals k c xs) ≡ some y → last_of v (arrivals k c (x ∷ xs)) ≡ some y
+last-keep : (v : Row → Bool) (k c : ℕ) (x y : Row) (xs : List Row) → last_of v (arrivals k c xs) ≡ Some y → last_of v (arrivals k c (x ∷ xs)) ≡ Some y
 last-keep v k c x y xs h = go (of_version k c x) refl
   where
-    go : (a : Bool) → of_version k c x ≡ a → last_of v (arrivals k c (x ∷ xs)) ≡ some y
+    go : (a : Bool) → of_version k c x ≡ a → last_of v (arrivals k c (x ∷ xs)) ≡ Some y
     go true e = rw (e, h)
     go false e = rw e h
 
@@ -93,36 +93,36 @@ best_chosen v k [] = λ c. refl
 best_chosen v k (x ∷ xs) = go (of_key k x) refl (v x) refl (best v k xs) (best_chosen v k xs)
   where
     go : (a : Bool) → of_key k x ≡ a → (b : Bool) → v x ≡ b → (o : Option Row) → Chosen v k xs o → Chosen v k (x ∷ xs) (merge o (when (a && b) x))
-    go false ea b eb none h = λ c. last_skip v k c x xs (rw ea) ∙ h c
-    go false ea b eb (some y) h = (last_skip v k y.creator x xs (rw ea) ∙ h.0, λ c g. last_skip v k c x xs (rw ea) ∙ h.1 c g)
-    go true ea false eb none h = λ c. last_skip v k c x xs (rw (ea, eb)) ∙ h c
-    go true ea false eb (some y) h = (last_skip v k y.creator x xs (rw (ea, eb)) ∙ h.0, λ c g. last_skip v k c x xs (rw (ea, eb)) ∙ h.1 c g)
-    go true ea true eb none h =
-        (last_own v k x xs ea eb ∙ ap (λ o. or_else o (some x)) (h x.creator), λ c g. last-other v k c x xs (λ e. omega arith) ∙ h c)
-    go true ea true eb (some y) h = more (ltb y.creator x.creator) refl
+    go false ea b eb None h = λ c. last_skip v k c x xs (rw ea) ∙ h c
+    go false ea b eb (Some y) h = (last_skip v k y.creator x xs (rw ea) ∙ h.0, λ c g. last_skip v k c x xs (rw ea) ∙ h.1 c g)
+    go true ea false eb None h = λ c. last_skip v k c x xs (rw (ea, eb)) ∙ h c
+    go true ea false eb (Some y) h = (last_skip v k y.creator x xs (rw (ea, eb)) ∙ h.0, λ c g. last_skip v k c x xs (rw (ea, eb)) ∙ h.1 c g)
+    go true ea true eb None h =
+        (last_own v k x xs ea eb ∙ ap (λ o. or_else o (Some x)) (h x.creator), λ c g. last-other v k c x xs (λ e. omega arith) ∙ h c)
+    go true ea true eb (Some y) h = more (ltb y.creator x.creator) refl
       where
-        more : (d : Bool) → ltb y.creator x.creator ≡ d → Chosen v k (x ∷ xs) (pick d (some x) (some y))
+        more : (d : Bool) → ltb y.creator x.creator ≡ d → Chosen v k (x ∷ xs) (pick d (Some x) (Some y))
         more true ed = let g : y.creator < x.creator = ltb-true y.creator x.creator ed in
-            (last_own v k x xs ea eb ∙ ap (λ o. or_else o (some x)) (h.1 x.creator g), λ c l. last-other v k c x xs (λ e. omega arith) ∙ h.1 c (omega arith))
+            (last_own v k x xs ea eb ∙ ap (λ o. or_else o (Some x)) (h.1 x.creator g), λ c l. last-other v k c x xs (λ e. omega arith) ∙ h.1 c (omega arith))
         more false ed = let g : x.creator ≤ y.creator = ltb-false y.creator x.creator ed in
             (last-keep v k y.creator x y xs h.0, λ c l. last-other v k c x xs (λ e. omega arith) ∙ h.1 c l)
 
 -- and so determined by the arrivals of the key
 pub chosen_same : (v : Row → Bool) (k : ℕ) (l l' : List Row) → ((c : ℕ) → arrivals k c l ≡ arrivals k c l') → (a b : Option Row) → Chosen v k l a
     → Chosen v k l' b → a ≡ b
-chosen_same v k l l' e none none h g = refl
-chosen_same v k l l' e none (some y) h g = sym (h y.creator) ∙ ap (last_of v) (e y.creator) ∙ g.0
-chosen_same v k l l' e (some x) none h g = sym h.0 ∙ ap (last_of v) (e x.creator) ∙ g x.creator
-chosen_same v k l l' e (some x) (some y) h g = go (ltb x.creator y.creator) refl (ltb y.creator x.creator) refl
+chosen_same v k l l' e None None h g = refl
+chosen_same v k l l' e None (Some y) h g = sym (h y.creator) ∙ ap (last_of v) (e y.creator) ∙ g.0
+chosen_same v k l l' e (Some x) None h g = sym h.0 ∙ ap (last_of v) (e x.creator) ∙ g x.creator
+chosen_same v k l l' e (Some x) (Some y) h g = go (ltb x.creator y.creator) refl (ltb y.creator x.creator) refl
   where
-    go : (a : Bool) → ltb x.creator y.creator ≡ a → (b : Bool) → ltb y.creator x.creator ≡ b → some x ≡ some y
+    go : (a : Bool) → ltb x.creator y.creator ≡ a → (b : Bool) → ltb y.creator x.creator ≡ b → Some x ≡ Some y
     go true ea b eb = absurd (none_some y (sym (h.1 y.creator (ltb-true x.creator y.creator ea)) ∙ ap (last_of v) (e y.creator) ∙ g.0))
       where
-        none_some : (y : Row) → none ≡ some y → ⊥
+        none_some : (y : Row) → None ≡ Some y → ⊥
         none_some y q = let z : ◌≡◌ {A = ℕ} 0 1 = cc in omega arith
     go false ea true eb = absurd (none_some x (sym (g.1 x.creator (ltb-true y.creator x.creator eb)) ∙ ap (last_of v) (sym (e x.creator)) ∙ h.0))
       where
-        none_some : (y : Row) → none ≡ some y → ⊥
+        none_some : (y : Row) → None ≡ Some y → ⊥
         none_some y q = let z : ◌≡◌ {A = ℕ} 0 1 = cc in omega arith
     go false ea false eb =
         let p : x.creator ≤ y.creator = ltb-false y.creator x.creator eb in

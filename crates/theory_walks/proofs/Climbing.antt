@@ -1,4 +1,5 @@
 -- The climb over the bytes of a tree's pages gives the pages above a leaf. Assumes nothing.
+use Rattle.std.proofs.Common.{Ok}
 use mathlib.Core.Path.{◌≡◌, refl, sym, ap, ◌∙◌, subst}
 use mathlib.Core.List.Memᴰ
 use mathlib.Core.List.{List, [], ◌∷◌, ◌++◌, Memᴰ}
@@ -15,7 +16,6 @@ use Rattle.inner.specs.Inner.{children_from}
 use Rattle.inner.specs.Route.{first_where, child_place}
 use Rattle.leaf.specs.Rows.{Row}
 use Rattle.tree.specs.Climb.{above_of, up, climb_of}
-use Rattle.tree.specs.declared.climb.Above.{Above}
 use Rattle.theory_tree.specs.Pages.{inner_page}
 use Rattle.theory_tree.specs.View.{view}
 use Rattle.theory_tree.specs.Shape.{Shape, leaf, node, pair, pages_in, head, rest, Holds, Deep, All, NoneTwice, Bounded, IsTree, WellFormed}
@@ -67,7 +67,7 @@ not_root (under q c) x l i d = by_high (high c) refl (not_root c (node q x))
 module _ (s : List ℕ) (used : ℕ) where
   -- the page above
   above_is : (p q par j : ℕ) (x : Shape) (lo hi : ℕ) → view s q ≡ inner_page par j (head x) (rest x) → Bounded lo hi x → q < used
-      → parent_of (page s p) ≡ q → Memᴰ p (roots x) → above_of s used p ≡ Above.Page q
+      → parent_of (page s p) ≡ q → Memᴰ p (roots x) → above_of s used p ≡ Ok q
   above_is p q par j x lo hi v b u e m =
       let a = judged_inner_of s q par j (head x) (rest x) v (seps_rise lo hi x b) in
       let n : cell_count (page s q) ≡ length (rest x) = count_of s q par j (head x) (rest x) v in
@@ -81,7 +81,7 @@ module _ (s : List ℕ) (used : ℕ) where
   root_way_lem zero r p w e = rw (eq-eqb p r w, eq-eqb (parent_of (page s p)) 0 e)
   root_way_lem (suc m) r p w e = rw (eq-eqb p r w, eq-eqb (parent_of (page s p)) 0 e)
 
-  way_up : (m root p q : ℕ) (qs : List ℕ) → (p ≡ root → ⊥) → above_of s used p ≡ Above.Page q → climb_of s used root q m ≡ up (q ∷ qs)
+  way_up : (m root p q : ℕ) (qs : List ℕ) → (p ≡ root → ⊥) → above_of s used p ≡ Ok q → climb_of s used root q m ≡ up (q ∷ qs)
       → climb_of s used root p (suc m) ≡ up (p ∷ q ∷ qs)
   unfolding climb_of
   way_up m root p q qs z w ih = rw (ne_eqb p root z, w, ih)

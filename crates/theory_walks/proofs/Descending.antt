@@ -1,4 +1,5 @@
 -- The descent over the bytes of a tree's pages ends at the leaf that its route leads to. Assumes nothing.
+use Rattle.std.proofs.Common.{Ok}
 use mathlib.Core.Path.{◌≡◌, refl, sym, ap, ◌∙◌}
 use mathlib.Core.Bool.{Bool, true, false}
 use mathlib.Core.List.{List, [], ◌∷◌, ◌++◌}
@@ -15,11 +16,10 @@ use Rattle.inner.specs.Inner.{key_at, child_at, keys_from}
 use Rattle.inner.specs.Route.{first_where}
 use Rattle.tree.specs.Descend.{turn_of, child_of, descend_of}
 use Rattle.tree.specs.declared.Route.{Route}
-use Rattle.tree.specs.declared.Descent.{Descent}
 use Rattle.theory_tree.specs.Pages.{inner_page}
 use Rattle.theory_tree.specs.View.{entries_from, view}
 use Rattle.theory_tree.specs.Shape.{Shape, leaf, node, pair, pages_in, head, rest, first, Holds, Deep, All, Bounded, IsTree, WellFormed}
-use Rattle.tree.proofs.Ways.{way_leaf, way_on}
+use Rattle.tree.proofs.Ways.{way_leaf, way_on, leaf_here, inner_here}
 use Rattle.theory_tree.proofs.Contexts.{Ctx, top, in_l, in_r, under, loc}
 use Rattle.theory_tree.proofs.Lists.{all_left, all_right}
 use Rattle.theory_tree.proofs.Seek.{leaf_of, seps_below}
@@ -93,9 +93,9 @@ module _ (left : ℕ → Bool) where
 -- ---- the descent
 
 pub descend-run : (s : List ℕ) (used : ℕ) (route : Route) (n m par nxt lo hi : ℕ) (g : Shape) → Holds (view s) par nxt g → Deep n g → Bounded lo hi g
-    → All (λ p. p < used) (pages_in g) → n ≤ m → descend_of s used (child_by (left_on route) (head g) (rest g)) route m ≡ Descent.Leaf (leaf_by (left_on route) g)
+    → All (λ p. p < used) (pages_in g) → n ≤ m → descend_of s used (child_by (left_on route) (head g) (rest g)) route m ≡ Ok (leaf_by (left_on route) g)
 descend-run s used route n m par nxt lo hi (leaf p rs) h d b u l =
-    sym (way_leaf route used p s u.0 refl refl m (leaf_at s p par nxt rs h).type)
+    sym (way_leaf s used p (leaf_here s used p u.0 (leaf_at s p par nxt rs h).type) route refl m refl)
 descend-run s used route n m par nxt lo hi (node p f) h d b u l =
     let v = h.1 in
     let e = d.1 in
@@ -104,24 +104,24 @@ descend-run s used route n m par nxt lo hi (node p f) h d b u l =
     let i = descend-run s used route d.0 (m - 1) p nxt lo hi f h.2 d.2 b u.1 (omega arith) in
     let other : node_type (page s p) ≡ 1 → ⊥ = λ t. let z : ◌≡◌ {A = ℕ} 0 1 = sym a.type ∙ t in omega arith in
     let child = child_of_lem s p par h.0 (head f) (rest f) route v in
-    sym (way_on route used p s u.0 refl refl other m (λ z. omega arith) refl j (sym child)) ∙ i
+    sym (way_on s used p (inner_here s used p u.0 other) route refl refl refl refl m {m = m - 1} (omega arith) j (sym child)) ∙ i
 descend-run s used route n m par nxt lo hi (pair a k g) h d b u l =
     by_left (left_on route k) refl
     (descend-run s used route n m par (first g) lo k a h.0 d.0 b.0 (all_left (λ p. p < used) (pages_in a) (pages_in g) u) l)
     (descend-run s used route n m par nxt k hi g h.1 d.1 b.1 (all_right (λ p. p < used) (pages_in a) (pages_in g) u) l)
   where
     by_left : (x : Bool) → left_on route k ≡ x
-        → descend_of s used (child_by (left_on route) (head a) (rest a)) route m ≡ Descent.Leaf (leaf_by (left_on route) a)
-        → descend_of s used (child_by (left_on route) (head g) (rest g)) route m ≡ Descent.Leaf (leaf_by (left_on route) g)
+        → descend_of s used (child_by (left_on route) (head a) (rest a)) route m ≡ Ok (leaf_by (left_on route) a)
+        → descend_of s used (child_by (left_on route) (head g) (rest g)) route m ≡ Ok (leaf_by (left_on route) g)
         → descend_of s used (child_by (left_on route) (head a) (rest a ++ ((k, head g) ∷ rest g))) route m
-        ≡ Descent.Leaf (pick x (leaf_by (left_on route) a) (leaf_by (left_on route) g))
+        ≡ Ok (pick x (leaf_by (left_on route) a) (leaf_by (left_on route) g))
     by_left true e i j = ap (λ (q : ℕ). descend_of s used q route m) (child_left (left_on route) (head a) (rest a) k (head g) (rest g) e) ∙ i
     by_left false e i j =
         ap (λ (q : ℕ). descend_of s used q route m) (child_right (left_on route) (right-before route) (head a) (rest a) k (head g) (rest g) e (seps_below lo k a b.0)) ∙ j
 
 -- from the one page of a tree
 pub descend_sub : (s : List ℕ) (used : ℕ) (route : Route) (n m par nxt lo hi : ℕ) (g : Shape) → IsTree g → Holds (view s) par nxt g → Deep n g → Bounded lo hi g
-    → All (λ p. p < used) (pages_in g) → n ≤ m → descend_of s used (head g) route m ≡ Descent.Leaf (leaf_by (left_on route) g)
+    → All (λ p. p < used) (pages_in g) → n ≤ m → descend_of s used (head g) route m ≡ Ok (leaf_by (left_on route) g)
 descend_sub s used route n m par nxt lo hi g i h d b u l = rw (tree-rest g i) at (descend-run s used route n m par nxt lo hi g h d b u l)
 
 -- ---- where each route leads to
@@ -149,15 +149,15 @@ first_leaf (pair a k b) = first_leaf a
 -- ---- the whole tree
 
 module _ (s : List ℕ) (root used : ℕ) (t : Shape) (f : WellFormed (view s) root used t) where
-  pub descend-tree : (route : Route) → descend_of s used root route 3 ≡ Descent.Leaf (leaf_by (left_on route) t)
+  pub descend-tree : (route : Route) → descend_of s used root route 3 ≡ Ok (leaf_by (left_on route) t)
   descend-tree route =
       rw f.root_is at (descend_sub s used route f.level.0 3 0 0 0 4294967295 t f.tree f.rep f.level.2 f.bounds f.below f.level.1)
 
-  pub descend_search : (key : ℕ) → descend_of s used root (Route.Search key) 3 ≡ Descent.Leaf (leaf_of key t)
-  descend_search key = descend-tree (Route.Search key) ∙ ap (λ (p : ℕ). Descent.Leaf p) (search_leaf key t)
+  pub descend_search : (key : ℕ) → descend_of s used root (Route.Search key) 3 ≡ Ok (leaf_of key t)
+  descend_search key = descend-tree (Route.Search key) ∙ ap (λ (p : ℕ). Ok p) (search_leaf key t)
 
-  pub descend-insert : (key : ℕ) → descend_of s used root (Route.Insert key) 3 ≡ Descent.Leaf (loc key t top).page
-  descend-insert key = descend-tree (Route.Insert key) ∙ ap (λ (p : ℕ). Descent.Leaf p) (insert-leaf key t top)
+  pub descend-insert : (key : ℕ) → descend_of s used root (Route.Insert key) 3 ≡ Ok (loc key t top).page
+  descend-insert key = descend-tree (Route.Insert key) ∙ ap (λ (p : ℕ). Ok p) (insert-leaf key t top)
 
-  pub descend-first : descend_of s used root Route.First 3 ≡ Descent.Leaf (first t)
-  descend-first = descend-tree Route.First ∙ ap (λ (p : ℕ). Descent.Leaf p) (first_leaf t)
+  pub descend-first : descend_of s used root Route.First 3 ≡ Ok (first t)
+  descend-first = descend-tree Route.First ∙ ap (λ (p : ℕ). Ok p) (first_leaf t)

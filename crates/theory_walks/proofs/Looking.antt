@@ -1,10 +1,10 @@
 -- What lookup and the conflict test answer on a tree: the version that is chosen among all of the chain, where it stands,
 -- and whether some version of the key meets the test. Assumes nothing.
+use Rattle.std.proofs.Common.{Some, None, Ok, Option}
 use mathlib.Core.Path.{◌≡◌, refl, sym, ap, ◌∙◌, subst}
 use mathlib.Core.Bool.{Bool, true, false, ◌&&◌, ◌||◌, or_assoc, or-false}
 use mathlib.Core.List.{List, [], ◌∷◌, ◌++◌, append-nil, append_assoc, map, map-append}
 use mathlib.Core.Logic.{◌⊎◌, inl, inr}
-use mathlib.Core.Option.{Option, none, some}
 use Prim.Native.Nat.{ℕ, ◌<◌}
 use native.Mathlib.Omega.{arith}
 use lib.Dec.{ltb, eqb}
@@ -14,16 +14,10 @@ use Rattle.page.specs.Page.{page}
 use Rattle.row.specs.declared.Cell.{Cell}
 use Rattle.mvcc.specs.Rules.{visible}
 use Rattle.leaf.specs.Cells.{cells, fold_cells, judge_leaf, has_larger}
-use Rattle.leaf.specs.Find.{later, newest, find_leaf, test_of, joined, test_leaf}
+use Rattle.leaf.specs.Find.{later, newest, find_leaf, test_of, joined, test_leaf, Best}
 use Rattle.leaf.specs.Rows.{Row, row_of, rows, of_key}
-use Rattle.leaf.specs.declared.Judged.{Judged}
-use Rattle.leaf.specs.declared.find.Best.{Best}
-use Rattle.leaf.specs.declared.find.LeafBest.{LeafBest}
-use Rattle.leaf.specs.declared.find.LeafTest.{LeafTest}
 use Rattle.tree.specs.Chain.{stop, go, seen_best, look_best, best_along, seen_test, look_test, test_along}
 use Rattle.tree.specs.Lookup.{best_in_tree, test_in_tree}
-use Rattle.tree.specs.declared.ChainBest.{ChainBest}
-use Rattle.tree.specs.declared.ChainTest.{ChainTest}
 use Rattle.theory_tree.specs.View.{view}
 use Rattle.theory_tree.specs.Shape.{Shape, leaf, chain, All, WellFormed}
 use Rattle.theory_tree.specs.Versions.{arrivals, when, better, merge, best}
@@ -51,18 +45,18 @@ larger_is key pg = larger_from key pg false (cells pg)
 
 -- ---- the choice of two lists
 
-merge_none : (o : Option Row) → merge o none ≡ o
-merge_none none = refl
-merge_none (some x) = refl
+merge_none : (o : Option Row) → merge o None ≡ o
+merge_none None = refl
+merge_none (Some x) = refl
 
 merge_assoc : (a b c : Option Row) → merge (merge a b) c ≡ merge a (merge b c)
-merge_assoc none b c = refl
-merge_assoc (some x) none c = refl
-merge_assoc (some x) (some y) none = merge_none (better x (some y))
-merge_assoc (some x) (some y) (some z) = by_less (ltb x.creator y.creator) refl (ltb y.creator z.creator) refl
+merge_assoc None b c = refl
+merge_assoc (Some x) None c = refl
+merge_assoc (Some x) (Some y) None = merge_none (better x (Some y))
+merge_assoc (Some x) (Some y) (Some z) = by_less (ltb x.creator y.creator) refl (ltb y.creator z.creator) refl
   where
     by_less : (a : Bool) → ltb x.creator y.creator ≡ a → (b : Bool) → ltb y.creator z.creator ≡ b
-        → merge (pick a (some y) (some x)) (some z) ≡ better x (pick b (some z) (some y))
+        → merge (pick a (Some y) (Some x)) (Some z) ≡ better x (pick b (Some z) (Some y))
     by_less true e true g =
         let l = ltb-true x.creator y.creator e in
         let m = ltb-true y.creator z.creator g in
@@ -84,8 +78,8 @@ best_app v k (x ∷ xs) ys =
 
 -- the row that was found
 abbrev pub row_in : List ℕ → Best → Option Row
-row_in s Best.Nothing = none
-row_in s (Best.At p c) = some (row_of (page s p) c)
+row_in s None = None
+row_in s (Some (p, c)) = Some (row_of (page s p) c)
 
 -- the cell c of page p, of the key and seen by v: its leaf in the tree and its place there; behind it in the chain v sees
 -- none of its key and creator
@@ -131,12 +125,12 @@ module _ (sn : Snapshot) (st : ℕ → ℕ) (key : ℕ) where
   abbrev pub step_best : Best → ℕ → List ℕ → Best
   step_best b p pg = fold_cells (newest p key sn st) b (cells pg)
 
-  says_best : (a : Best) (p : ℕ) (pg : List ℕ) (e : ℕ) → judge_leaf pg p ≡ Judged.Ok e
+  says_best : (a : Best) (p : ℕ) (pg : List ℕ) (e : ℕ) → judge_leaf pg p ≡ Ok e
       → look_best key sn st a p pg ≡ pick (larger key (rows pg)) (stop (step_best a p pg)) (go (step_best a p pg))
   unfolding find_leaf
   says_best a p pg e j = rw (j, larger_is key pg) (by_end (fold_cells (newest p key sn st) a (cells pg)) (larger key (rows pg)))
     where
-      by_end : (b : Best) (l : Bool) → seen_best (LeafBest.Ok b l) ≡ pick l (stop b) (go b)
+      by_end : (b : Best) (l : Bool) → seen_best (Ok (b, l)) ≡ pick l (stop b) (go b)
       by_end b true = refl
       by_end b false = refl
 
@@ -152,13 +146,13 @@ module _ (sn : Snapshot) (st : ℕ → ℕ) (key : ℕ) where
   unfolding newest
   newest_row s p b c = by_test (eqb c.key key && visible sn st c.version.creator c.version.stamp) b
     where
-      by_less : (x : Bool) (q : ℕ) (o : Cell) → row_in s (pick x (Best.At q o) (Best.At p c)) ≡ pick x (some (row_of (page s q) o)) (some (row_of (page s p) c))
+      by_less : (x : Bool) (q : ℕ) (o : Cell) → row_in s (pick x (Some (q, o)) (Some (p, c))) ≡ pick x (Some (row_of (page s q) o)) (Some (row_of (page s p) c))
       by_less true q o = refl
       by_less false q o = refl
 
       by_test : (x : Bool) (b : Best) → row_in s (pick x (later p b c) b) ≡ merge (when x (row_of (page s p) c)) (row_in s b)
-      by_test true Best.Nothing = refl
-      by_test true (Best.At q o) = by_less (ltb c.version.creator o.version.creator) q o
+      by_test true None = refl
+      by_test true (Some (q, o)) = by_less (ltb c.version.creator o.version.creator) q o
       by_test false b = refl
 
   fold_row : (s : List ℕ) (p : ℕ) (cs : List Cell) (b : Best)
@@ -186,7 +180,7 @@ module _ (sn : Snapshot) (st : ℕ → ℕ) (key : ℕ) where
 
   -- c was the best before rs, and stays it
   abbrev Stays : Best → ℕ → Cell → List Row → Type 0
-  Stays b q c rs = (b ≡ Best.At q c) × Less seen_by key c.version.creator rs
+  Stays b q c rs = (b ≡ Some (q, c)) × Less seen_by key c.version.creator rs
 
   -- c is among cs
   record InCells (pg : List ℕ) (c : Cell) (cs : List Cell) : Type 0 where
@@ -205,22 +199,30 @@ module _ (sn : Snapshot) (st : ℕ → ℕ) (key : ℕ) where
       let b = and_both (of_key key (row_of pg c)) (seen_by (row_of pg c)) (rw e at t) in
       record { before = []; after = cs; is = ap (λ (x : Cell). x ∷ cs) e; of_the_key = b.0; seen = b.1; less = h }
 
-  cells_chosen : (p : ℕ) (pg : List ℕ) (cs : List Cell) (b : Best) (q : ℕ) (c : Cell) → fold_cells (newest p key sn st) b cs ≡ Best.At q c
+  cells_chosen : (p : ℕ) (pg : List ℕ) (cs : List Cell) (b : Best) (q : ℕ) (c : Cell) → fold_cells (newest p key sn st) b cs ≡ Some (q, c)
       → Stays b q c (map (row_of pg) cs) ⊎ ((q ≡ p) × InCells pg c cs)
   unfolding fold_cells newest
   cells_chosen p pg [] b q c e = inl (e, tt)
   cells_chosen p pg (d ∷ cs) b q c e = by_rest (cells_chosen p pg cs (pick (test pg d) (later p b d) b) q c e)
     where
-      by_less : (x : Bool) (r : ℕ) (o : Cell) → ltb d.version.creator o.version.creator ≡ x → test pg d ≡ true → pick x (Best.At r o) (Best.At p d) ≡ Best.At q c
-          → Less seen_by key c.version.creator (map (row_of pg) cs) → Stays (Best.At r o) q c (map (row_of pg) (d ∷ cs)) ⊎ ((q ≡ p) × InCells pg c (d ∷ cs))
-      by_less true r o l t u h = let w : o ≡ c = cc in inl (u, ((λ z. rw w at (ltb-true d.version.creator o.version.creator l)), h))
-      by_less false r o l t u h = let w : d ≡ c = cc in let y : q ≡ p = cc in inr (y, first_cell pg d c cs w t h)
+      by_less : (x : Bool) (r : ℕ) (o : Cell) → ltb d.version.creator o.version.creator ≡ x → test pg d ≡ true → ◌≡◌ {A = Best} (pick x (Some (r, o)) (Some (p, d))) (Some (q, c))
+          → Less seen_by key c.version.creator (map (row_of pg) cs) → Stays (Some (r, o)) q c (map (row_of pg) (d ∷ cs)) ⊎ ((q ≡ p) × InCells pg c (d ∷ cs))
+      by_less true r o l t u h = let v : ◌≡◌ {A = ℕ × Cell} (r, o) (q, c) = cc in let w : o ≡ c = ap (λ (x : ℕ × Cell). x.1) v in inl (u, ((λ z. rw w at (ltb-true d.version.creator o.version.creator l)), h))
+      by_less false r o l t u h =
+          let v : ◌≡◌ {A = ℕ × Cell} (p, d) (q, c) = cc in
+          let w : d ≡ c = ap (λ (x : ℕ × Cell). x.1) v in
+          let y : q ≡ p = sym (ap (λ (x : ℕ × Cell). x.0) v) in
+          inr (y, first_cell pg d c cs w t h)
 
-      by_test : (x : Bool) → test pg d ≡ x → (b : Best) → pick x (later p b d) b ≡ Best.At q c → Less seen_by key c.version.creator (map (row_of pg) cs)
+      by_test : (x : Bool) → test pg d ≡ x → (b : Best) → pick x (later p b d) b ≡ Some (q, c) → Less seen_by key c.version.creator (map (row_of pg) cs)
           → Stays b q c (map (row_of pg) (d ∷ cs)) ⊎ ((q ≡ p) × InCells pg c (d ∷ cs))
       by_test false t b u h = inl (u, ((λ z. absurd (let y : ◌≡◌ {A = ℕ} 0 1 = cc in omega arith)), h))
-      by_test true t Best.Nothing u h = let w : d ≡ c = cc in let y : q ≡ p = cc in inr (y, first_cell pg d c cs w t h)
-      by_test true t (Best.At r o) u h = by_less (ltb d.version.creator o.version.creator) r o refl t u h
+      by_test true t None u h =
+          let v : ◌≡◌ {A = ℕ × Cell} (p, d) (q, c) = cc in
+          let w : d ≡ c = ap (λ (x : ℕ × Cell). x.1) v in
+          let y : q ≡ p = sym (ap (λ (x : ℕ × Cell). x.0) v) in
+          inr (y, first_cell pg d c cs w t h)
+      by_test true t (Some (r, o)) u h = by_less (ltb d.version.creator o.version.creator) r o refl t u h
 
       by_rest : Stays (pick (test pg d) (later p b d) b) q c (map (row_of pg) cs) ⊎ ((q ≡ p) × InCells pg c cs)
           → Stays b q c (map (row_of pg) (d ∷ cs)) ⊎ ((q ≡ p) × InCells pg c (d ∷ cs))
@@ -251,7 +253,7 @@ module _ (sn : Snapshot) (st : ℕ → ℕ) (key : ℕ) where
           last = less_last seen_by key n (map (row_of pg) i.after ++ post_c l.ctx) back;
         })
 
-    leaves_chosen : (ls : List Loc) (b : Best) (q : ℕ) (c : Cell) → All (InTree t) ls → All (AtLeaf s used) ls → Trailed [] ls → gather step_best s b ls ≡ Best.At q c
+    leaves_chosen : (ls : List Loc) (b : Best) (q : ℕ) (c : Cell) → All (InTree t) ls → All (AtLeaf s used) ls → Trailed [] ls → gather step_best s b ls ≡ Some (q, c)
         → Stays b q c (flat (cellss ls)) ⊎ Standing seen_by key s t q c
     leaves_chosen [] b q c i a z e = inl (e, tt)
     leaves_chosen (l ∷ ls) b q c i a z e = by_rest (leaves_chosen ls (step_best b l.page (page s l.page)) q c i.1 a.1 z.1 e)
@@ -272,12 +274,12 @@ module _ (sn : Snapshot) (st : ℕ → ℕ) (key : ℕ) where
   -- ---- on a tree
 
   abbrev pub StandsBy : List ℕ → Shape → Best → Type 0
-  StandsBy s t Best.Nothing = Unit {0}
-  StandsBy s t (Best.At p c) = Standing seen_by key s t p c
+  StandsBy s t None = Unit {0}
+  StandsBy s t (Some (p, c)) = Standing seen_by key s t p c
 
   pub record BestIs (s : List ℕ) (root used : ℕ) (t : Shape) : Type 0 where
     pub found : Best
-    pub told : best_in_tree s used root key sn st ≡ ChainBest.Ok found
+    pub told : best_in_tree s used root key sn st ≡ Ok found
     pub row : row_in s found ≡ best seen_by key (chain t)
     pub stands : StandsBy s t found
 
@@ -285,30 +287,30 @@ module _ (sn : Snapshot) (st : ℕ → ℕ) (key : ℕ) where
     leaves : All (AtLeaf s used) (locs t top)
     leaves = at_leaves s root used t f (locs t top) (locs_plug t top)
 
-    pub best-told : best_in_tree s used root key sn st ≡ ChainBest.Ok (gather step_best s Best.Nothing (locs t top))
+    pub best-told : best_in_tree s used root key sn st ≡ Ok (gather step_best s None (locs t top))
     unfolding best_in_tree best_along
     best-told =
         rw (
           descend_search s root used t f key,
-          walk-key (look_best key sn st) key step_best says_best (λ a p pg e j o. fold_skips p pg (cells pg) a o) s root used t f Best.Nothing,
+          walk-key (look_best key sn st) key step_best says_best (λ a p pg e j o. fold_skips p pg (cells pg) a o) s root used t f None,
         )
 
     pub best-is : BestIs s root used t
     best-is =
         record {
-          found = gather step_best s Best.Nothing (locs t top);
+          found = gather step_best s None (locs t top);
           told = best-told;
-          row = gather_row s used (locs t top) Best.Nothing leaves ∙ (merge_none (best seen_by key (flat (cellss (locs t top)))) ∙ ap (best seen_by key) (locs_chain t top));
-          stands = by_found (gather step_best s Best.Nothing (locs t top)) refl;
+          row = gather_row s used (locs t top) None leaves ∙ (merge_none (best seen_by key (flat (cellss (locs t top)))) ∙ ap (best seen_by key) (locs_chain t top));
+          stands = by_found (gather step_best s None (locs t top)) refl;
         }
       where
-        of_two : (p : ℕ) (c : Cell) → Stays Best.Nothing p c (flat (cellss (locs t top))) ⊎ Standing seen_by key s t p c → Standing seen_by key s t p c
+        of_two : (p : ℕ) (c : Cell) → Stays None p c (flat (cellss (locs t top))) ⊎ Standing seen_by key s t p c → Standing seen_by key s t p c
         of_two p c (inl w) = absurd (let e = w.0 in let z : ◌≡◌ {A = ℕ} 0 1 = cc in omega arith)
         of_two p c (inr w) = w
 
-        by_found : (b : Best) → gather step_best s Best.Nothing (locs t top) ≡ b → StandsBy s t b
-        by_found Best.Nothing e = tt
-        by_found (Best.At p c) e = of_two p c (leaves_chosen s used t (locs t top) Best.Nothing p c (locs_plug t top) leaves (locs_trailed t top) e)
+        by_found : (b : Best) → gather step_best s None (locs t top) ≡ b → StandsBy s t b
+        by_found None e = tt
+        by_found (Some (p, c)) e = of_two p c (leaves_chosen s used t (locs t top) None p c (locs_plug t top) leaves (locs_trailed t top) e)
 
 -- ---- the conflict test
 
@@ -323,12 +325,12 @@ module _ (claiming : Bool) (sn : Snapshot) (st : ℕ → ℕ) (seen key : ℕ) w
   abbrev pub step_test : Bool → ℕ → List ℕ → Bool
   step_test b p pg = fold_cells (joined key sn st claiming seen) b (cells pg)
 
-  says_test : (a : Bool) (p : ℕ) (pg : List ℕ) (e : ℕ) → judge_leaf pg p ≡ Judged.Ok e
+  says_test : (a : Bool) (p : ℕ) (pg : List ℕ) (e : ℕ) → judge_leaf pg p ≡ Ok e
       → look_test key sn st claiming seen a p pg ≡ pick (larger key (rows pg)) (stop (step_test a p pg)) (go (step_test a p pg))
   unfolding test_leaf
   says_test a p pg e j = rw (j, larger_is key pg) (by_end (fold_cells (joined key sn st claiming seen) a (cells pg)) (larger key (rows pg)))
     where
-      by_end : (b l : Bool) → seen_test (LeafTest.Ok b l) ≡ pick l (stop b) (go b)
+      by_end : (b l : Bool) → seen_test (Ok (b, l)) ≡ pick l (stop b) (go b)
       by_end b true = refl
       by_end b false = refl
 
@@ -344,7 +346,7 @@ module _ (claiming : Bool) (sn : Snapshot) (st : ℕ → ℕ) (seen key : ℕ) w
   none-meets (r ∷ rs) o = rw o.0 (none-meets rs o.1)
 
   pub test_is : (s : List ℕ) (root used : ℕ) (t : Shape) → WellFormed (view s) root used t
-      → test_in_tree s used root key sn st claiming seen ≡ ChainTest.Ok (some? meets (chain t))
+      → test_in_tree s used root key sn st claiming seen ≡ Ok (some? meets (chain t))
   unfolding test_in_tree test_along
   test_is s root used t f =
       rw (
@@ -352,7 +354,7 @@ module _ (claiming : Bool) (sn : Snapshot) (st : ℕ → ℕ) (seen key : ℕ) w
         walk-key (look_test key sn st claiming seen) key step_test says_test
             (λ a p pg e j o. fold_some pg (cells pg) a ∙ (ap (λ (b : Bool). a || b) (none-meets (rows pg) o) ∙ or-false a)) s root used t f false,
       )
-      (ap (λ (b : Bool). ChainTest.Ok b)
+      (ap (λ (b : Bool). Ok b)
       (gather_chain step_test s used (λ a rs. a || some? meets rs) (λ a p pg e j. fold_some pg (cells pg) a) or-false
       (λ a xs ys. ap (λ (b : Bool). a || b) (some_app meets xs ys) ∙ sym (or_assoc a (some? meets xs) (some? meets ys)))
       t (at_leaves s root used t f (locs t top) (locs_plug t top)) false))

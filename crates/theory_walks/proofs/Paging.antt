@@ -1,5 +1,7 @@
 -- The pages of a tree are judged good: a leaf page whose rows are sorted, and an internal page whose keys never fall.
 -- Assumes nothing.
+use Rattle.row.specs.declared.CellFault.{CellFault}
+use Rattle.std.proofs.Common.{Result, Ok, Err}
 use mathlib.Core.Path.{◌≡◌, refl, sym, ap, ◌∙◌}
 use mathlib.Core.Bool.{Bool, true, false}
 use mathlib.Core.List.{List, [], ◌∷◌, ◌++◌, map}
@@ -13,12 +15,9 @@ use Rattle.page.specs.Page.{page}
 use Rattle.page.specs.Header.{node_type, cell_count}
 use Rattle.row.specs.Read.{cell_at}
 use Rattle.row.specs.declared.Cell.{Cell}
-use Rattle.row.specs.declared.read.CellRead.{CellRead}
 use Rattle.leaf.specs.Cells.{on_cell, cells_of, cells, in_order, step_of, on_step, judge_cells, judge_leaf}
 use Rattle.leaf.specs.Rows.{Row, row_of, rows}
-use Rattle.leaf.specs.declared.Judged.{Judged}
 use Rattle.inner.specs.Inner.{keys_from, keys_of, children_of, never_falls, judge_inner}
-use Rattle.inner.specs.declared.InnerJudged.{InnerJudged}
 use Rattle.theory_tree.specs.Pages.{leaf_page, inner_page}
 use Rattle.theory_tree.specs.View.{view}
 use Rattle.theory_tree.specs.Shape.{Shape, leaf, node, pair, head, rest, All, Sorted, Bounded}
@@ -63,19 +62,19 @@ rising_of pg k c (x ∷ xs) a o =
 
 -- cells that are all there, in order, are judged good
 cells-judged : (pg : List ℕ) (p k c n at : ℕ) → length (cells_of pg n at) ≡ n → Rising k c (cells_of pg n at)
-    → judge_cells pg p k c n at ≡ Judged.Ok (end_of at (cells_of pg n at))
+    → judge_cells pg p k c n at ≡ Ok (end_of at (cells_of pg n at))
 unfolding judge_cells cells_of end_of
 cells-judged pg p k c zero at e o = refl
 cells-judged pg p k c (suc n) at e o = by_read (cell_at pg at) refl (λ x. cells-judged pg p x.key x.version.creator n x.next) e o
   where
-    by_read : (d : CellRead) → cell_at pg at ≡ d
+    by_read : (d : Result Cell CellFault) → cell_at pg at ≡ d
         → ((x : Cell) → length (cells_of pg n x.next) ≡ n → Rising x.key x.version.creator (cells_of pg n x.next)
-        → judge_cells pg p x.key x.version.creator n x.next ≡ Judged.Ok (end_of x.next (cells_of pg n x.next)))
+        → judge_cells pg p x.key x.version.creator n x.next ≡ Ok (end_of x.next (cells_of pg n x.next)))
         → length (on_cell (λ x. x ∷ cells_of pg n x.next) (λ kind. []) d) ≡ suc n → Rising k c (on_cell (λ x. x ∷ cells_of pg n x.next) (λ kind. []) d)
-        → on_step (λ x. judge_cells pg p x.key x.version.creator n x.next) (λ f. Judged.Bad f) (step_of pg p k c at)
-        ≡ Judged.Ok (end_of at (on_cell (λ x. x ∷ cells_of pg n x.next) (λ kind. []) d))
-    by_read (CellRead.Bad kind) q ih e o = absurd (let z : 0 ≡ suc n = e in omega arith)
-    by_read (CellRead.Got x) q ih e o =
+        → on_step (λ x. judge_cells pg p x.key x.version.creator n x.next) (λ f. Err f) (step_of pg p k c at)
+        ≡ Ok (end_of at (on_cell (λ x. x ∷ cells_of pg n x.next) (λ kind. []) d))
+    by_read (Err kind) q ih e o = absurd (let z : 0 ≡ suc n = e in omega arith)
+    by_read (Ok x) q ih e o =
         let m : length (cells_of pg n x.next) ≡ n = (let z : suc (length (cells_of pg n x.next)) ≡ suc n = e in omega arith) in
         rw (← step_in pg p k c at (sym q) refl (sym o.0) refl) (ih x m o.1)
 
@@ -87,12 +86,12 @@ sorted_rising pg o = rising_of pg 0 0 (cells pg) (any (rows pg)) o
     any (r ∷ rs) = ((omega arith, λ e. omega arith), any rs)
 
 -- a leaf page whose rows are all there and sorted
-pub leaf-judged : (p : ℕ) (pg : List ℕ) → node_type pg ≡ 1 → length (rows pg) ≡ cell_count pg → Sorted (rows pg) → (e : ℕ) × (judge_leaf pg p ≡ Judged.Ok e)
+pub leaf-judged : (p : ℕ) (pg : List ℕ) → node_type pg ≡ 1 → length (rows pg) ≡ cell_count pg → Sorted (rows pg) → (e : ℕ) × (judge_leaf pg p ≡ Ok e)
 leaf-judged p pg t n o =
     let j = cells-judged pg p 0 0 (cell_count pg) 12 (sym (length-map (cells pg) (row_of pg)) ∙ n) (sorted_rising pg o) in
     (end_of 12 (cells pg), sym (leaf-cells p pg t refl (sym j)))
 
-pub judged-leaf_of : (s : List ℕ) (p par nxt : ℕ) (rs : List Row) → view s p ≡ leaf_page par nxt rs → Sorted rs → (e : ℕ) × (judge_leaf (page s p) p ≡ Judged.Ok e)
+pub judged-leaf_of : (s : List ℕ) (p par nxt : ℕ) (rs : List Row) → view s p ≡ leaf_page par nxt rs → Sorted rs → (e : ℕ) × (judge_leaf (page s p) p ≡ Ok e)
 judged-leaf_of s p par nxt rs v o =
     let a = leaf_at s p par nxt rs v in
     leaf-judged p (page s p) a.type (ap length a.rows_are ∙ a.count) (rw a.rows_are o)
@@ -138,7 +137,7 @@ module _ (s : List ℕ) (p par j h : ℕ) (r : List (ℕ × ℕ)) (v : view s p 
   pub children_of_lem : children_of (page s p) ≡ kids h r
   children_of_lem = let a = inner_at s p par j h r v in kids_of_lem (page s p) ∙ rw (a.child, a.entries)
 
-  pub judged_inner_of : never_falls 0 (keys_in r) ≡ true → judge_inner (page s p) p ≡ InnerJudged.Ok (length r)
+  pub judged_inner_of : never_falls 0 (keys_in r) ≡ true → judge_inner (page s p) p ≡ Ok (length r)
   judged_inner_of e =
       let a = inner_at s p par j h r v in
       let rises : never_falls 0 (keys_from (page s p) 0 (length r)) ≡ true = rw (← count_of) (ap (never_falls 0) keys_of_lem ∙ e) in

@@ -1,9 +1,10 @@
 -- The walk along the chain of a tree, said once for every walk: it meets leaves that are judged good, never a fault, and
 -- gathers over them up to a leaf that ends it, or to the end of the chain. Assumes nothing.
+use Rattle.std.proofs.Common.{Ok}
 use mathlib.Core.Path.{◌≡◌, refl, sym, ap, ◌∙◌, subst}
 use mathlib.Core.Bool.{Bool, true, false}
 use mathlib.Core.List.{List, [], ◌∷◌, ◌++◌, append_assoc}
-use Prim.Native.Nat.{ℕ, zero, suc, ◌-◌, ◌≤◌, ◌<◌}
+use Prim.Native.Nat.{ℕ, zero, suc, ◌≤◌, ◌<◌}
 use native.Mathlib.Omega.{arith}
 use native.Mathlib.Nat.{le_trans}
 use lib.Dec.{leb}
@@ -13,8 +14,7 @@ use Rattle.store.specs.Pick.{pick}
 use Rattle.page.specs.Page.{page}
 use Rattle.leaf.specs.Cells.{judge_leaf}
 use Rattle.leaf.specs.Rows.{Row, rows, of_key}
-use Rattle.leaf.specs.declared.Judged.{Judged}
-use Rattle.tree.specs.Chain.{Seen, stop, go, ok, along}
+use Rattle.tree.specs.Chain.{Seen, stop, go, along}
 use Rattle.theory_tree.specs.View.{view}
 use Rattle.theory_tree.specs.Shape.{Shape, leaf, node, pair, chain, pages_in, first, All, KeysIn, Bounded, WellFormed}
 use Rattle.tree.proofs.Ways.{along-last, along-end, along_on}
@@ -37,7 +37,7 @@ pub record AtLeaf (s : List ℕ) (used : ℕ) (l : Loc) : Type 0 where
   pub says : LeafSays (page s l.page) (par_c 0 l.ctx) (nxt_c 0 l.ctx) l.cells
   pub in_use : l.page < used
   pub end : ℕ
-  pub judged : judge_leaf (page s l.page) l.page ≡ Judged.Ok end
+  pub judged : judge_leaf (page s l.page) l.page ≡ Ok end
 
 abbrev pub InTree : Shape → Loc → Type 0
 InTree t l = plug l.ctx (here l) ≡ t
@@ -192,7 +192,7 @@ gather_app step s a (l ∷ xs) ys = gather_app step s (step a l.page (page s l.p
 
 module _ {A : Type 0} (step : A → ℕ → List ℕ → A) (s : List ℕ) (used : ℕ) where
   -- a step that passes over leaves without the key gathers nothing from them
-  module _ (k : ℕ) (skips : (a : A) (p : ℕ) (pg : List ℕ) (e : ℕ) → judge_leaf pg p ≡ Judged.Ok e → All (λ (r : Row). of_key k r ≡ false) (rows pg) → step a p pg ≡ a) where
+  module _ (k : ℕ) (skips : (a : A) (p : ℕ) (pg : List ℕ) (e : ℕ) → judge_leaf pg p ≡ Ok e → All (λ (r : Row). of_key k r ≡ false) (rows pg) → step a p pg ≡ a) where
     gather_skip : (a : A) (ls : List Loc) → All (AtLeaf s used) ls → Without k ls → gather step s a ls ≡ a
     gather_skip a [] h o = refl
     gather_skip a (l ∷ ls) h o =
@@ -213,7 +213,7 @@ module _ {A : Type 0} (step : A → ℕ → List ℕ → A) (s : List ℕ) (used
         ∙ (gather_app step s a m r.left ∙ gather_skip (gather step s a m) r.left gr r.none_behind))))
 
   -- a step that folds a leaf's rows folds those of the chain
-  module _ (g : A → List Row → A) (folds : (a : A) (p : ℕ) (pg : List ℕ) (e : ℕ) → judge_leaf pg p ≡ Judged.Ok e → step a p pg ≡ g a (rows pg))
+  module _ (g : A → List Row → A) (folds : (a : A) (p : ℕ) (pg : List ℕ) (e : ℕ) → judge_leaf pg p ≡ Ok e → step a p pg ≡ g a (rows pg))
       (none : (a : A) → g a [] ≡ a) (both : (a : A) (xs ys : List Row) → g a (xs ++ ys) ≡ g (g a xs) ys) where
     pub gather_rows : (a : A) (ls : List Loc) → All (AtLeaf s used) ls → gather step s a ls ≡ g a (flat (cellss ls))
     gather_rows a [] h = sym (none a)
@@ -228,10 +228,10 @@ module _ {A : Type 0} (step : A → ℕ → List ℕ → A) (s : List ℕ) (used
 
 -- look answers by the leaf's rows whether the walk ends there, and gathers by step
 module _ {A : Type 0} (look : A → ℕ → List ℕ → Seen A) (ends : List Row → Bool) (step : A → ℕ → List ℕ → A)
-    (says : (a : A) (p : ℕ) (pg : List ℕ) (e : ℕ) → judge_leaf pg p ≡ Judged.Ok e → look a p pg ≡ pick (ends (rows pg)) (stop (step a p pg)) (go (step a p pg)))
+    (says : (a : A) (p : ℕ) (pg : List ℕ) (e : ℕ) → judge_leaf pg p ≡ Ok e → look a p pg ≡ pick (ends (rows pg)) (stop (step a p pg)) (go (step a p pg)))
     (s : List ℕ) (used : ℕ) where
   walk_list : (m : ℕ) (a : A) (l : Loc) (ls : List Loc) → length ls < m → All (AtLeaf s used) (l ∷ ls) → Linked 0 0 (l ∷ ls) → Nz ls
-      → along s used l.page look m a ≡ ok (gather step s a (up_to ends (l ∷ ls)))
+      → along s used l.page look m a ≡ Ok (gather step s a (up_to ends (l ∷ ls)))
   walk_list zero a l ls n h k o = absurd (omega arith)
   walk_list (suc m) a l ls n h k o =
       by_end (ends l.cells) ls n h.1 k o
@@ -241,18 +241,17 @@ module _ {A : Type 0} (look : A → ℕ → List ℕ → Seen A) (ends : List Ro
       by_end : (x : Bool) (ls : List Loc) → length ls < suc m → All (AtLeaf s used) ls → Linked 0 0 (l ∷ ls) → Nz ls
           → look a l.page (page s l.page) ≡ pick x (stop (step a l.page (page s l.page))) (go (step a l.page (page s l.page)))
           → ((b : A) (l' : Loc) (ls' : List Loc) → length ls' < m → All (AtLeaf s used) (l' ∷ ls') → Linked 0 0 (l' ∷ ls') → Nz ls'
-          → along s used l'.page look m b ≡ ok (gather step s b (up_to ends (l' ∷ ls'))))
-          → along s used l.page look (suc m) a ≡ ok (gather step s (step a l.page (page s l.page)) (pick x [] (up_to ends ls)))
+          → along s used l'.page look m b ≡ Ok (gather step s b (up_to ends (l' ∷ ls'))))
+          → along s used l.page look (suc m) a ≡ Ok (gather step s (step a l.page (page s l.page)) (pick x [] (up_to ends ls)))
       by_end true ls n g k o e ih = sym (along-last look used a l.page s h.0.in_use refl (suc m) (omega arith) e)
       by_end false [] n g k o e ih = sym (along-end look used a l.page s h.0.in_use refl (suc m) (omega arith) e refl (h.0.says.next ∙ k.0))
       by_end false (l' ∷ ls') n g k o e ih =
-          let i : suc m - 1 ≡ m = omega arith in
           let q : l'.page ≡ _ = sym (h.0.says.next ∙ k.0) in
-          sym (along_on look used a l.page s h.0.in_use refl (suc m) (omega arith) e q o.0)
-          ∙ rw i (ih (step a l.page (page s l.page)) l' ls' (let z : suc (length ls') < suc m = n in omega arith) g k.1 o.1)
+          sym (along_on look used a l.page s h.0.in_use refl (suc m) refl e q o.0)
+          ∙ ih (step a l.page (page s l.page)) l' ls' (let z : suc (length ls') < suc m = n in omega arith) g k.1 o.1
 
   walk_from : (m p : ℕ) (a : A) (ls : List Loc) → length ls ≤ m → ((z : ℕ) → head_page ls z ≡ p) → All (AtLeaf s used) ls → Linked 0 0 ls → NzTail ls
-      → along s used p look m a ≡ ok (gather step s a (up_to ends ls))
+      → along s used p look m a ≡ Ok (gather step s a (up_to ends ls))
   walk_from m p a [] n e h k o = absurd (let z : ◌≡◌ {A = ℕ} 0 1 = e 0 ∙ sym (e 1) in omega arith)
   walk_from m p a (l ∷ ls) n e h k o = ap (λ (q : ℕ). along s used q look m a) (sym (e 0)) ∙ walk_list m a l ls n h k o
 
@@ -261,12 +260,12 @@ module _ {A : Type 0} (look : A → ℕ → List ℕ → Seen A) (ends : List Ro
     few = pigeon used (pages_in t) f.distinct f.below
 
     -- from where search for a key comes to, and from the first leaf
-    pub walk_search : (key : ℕ) (a : A) → along s used (leaf_of key t) look used a ≡ ok (gather step s a (up_to ends (froms key t top)))
+    pub walk_search : (key : ℕ) (a : A) → along s used (leaf_of key t) look used a ≡ Ok (gather step s a (up_to ends (froms key t top)))
     walk_search key a =
         walk_from used (leaf_of key t) a (froms key t top) (le_trans (froms_count key t top) few) (froms_head key t top)
         (at_leaves s root used t f (froms key t top) (froms_plug key t top)) (froms_linked 0 key t top) (froms_nz key t top f.later)
 
-    pub walk_first : (a : A) → along s used (first t) look used a ≡ ok (gather step s a (up_to ends (locs t top)))
+    pub walk_first : (a : A) → along s used (first t) look used a ≡ Ok (gather step s a (up_to ends (locs t top)))
     walk_first a =
         walk_from used (first t) a (locs t top) (le_trans (locs_count t top) few) (locs_head t top)
         (at_leaves s root used t f (locs t top) (locs_plug t top)) (locs_linked 0 t top) (locs_later s root used t f)
@@ -275,17 +274,17 @@ module _ {A : Type 0} (look : A → ℕ → List ℕ → Seen A) (ends : List Ro
 
 -- until a leaf holds a larger key, by a step that passes over leaves without the key: it gathers what all leaves give
 module _ {A : Type 0} (look : A → ℕ → List ℕ → Seen A) (key : ℕ) (step : A → ℕ → List ℕ → A)
-    (says : (a : A) (p : ℕ) (pg : List ℕ) (e : ℕ) → judge_leaf pg p ≡ Judged.Ok e → look a p pg ≡ pick (larger key (rows pg)) (stop (step a p pg)) (go (step a p pg)))
-    (skips : (a : A) (p : ℕ) (pg : List ℕ) (e : ℕ) → judge_leaf pg p ≡ Judged.Ok e → All (λ (r : Row). of_key key r ≡ false) (rows pg) → step a p pg ≡ a)
+    (says : (a : A) (p : ℕ) (pg : List ℕ) (e : ℕ) → judge_leaf pg p ≡ Ok e → look a p pg ≡ pick (larger key (rows pg)) (stop (step a p pg)) (go (step a p pg)))
+    (skips : (a : A) (p : ℕ) (pg : List ℕ) (e : ℕ) → judge_leaf pg p ≡ Ok e → All (λ (r : Row). of_key key r ≡ false) (rows pg) → step a p pg ≡ a)
     (s : List ℕ) (root used : ℕ) (t : Shape) (f : WellFormed (view s) root used t) where
-  pub walk-key : (a : A) → along s used (leaf_of key t) look used a ≡ ok (gather step s a (locs t top))
+  pub walk-key : (a : A) → along s used (leaf_of key t) look used a ≡ Ok (gather step s a (locs t top))
   walk-key a =
       walk_search look (larger key) step says s used root t f key a
-      ∙ ap (λ (x : A). ok x) (gather_around step s used key skips t (at_leaves s root used t f (locs t top) (locs_plug t top)) (around key 0 4294967295 t f.bounds) a)
+      ∙ ap (λ (x : A). Ok x) (gather_around step s used key skips t (at_leaves s root used t f (locs t top) (locs_plug t top)) (around key 0 4294967295 t f.bounds) a)
 
 -- to the end of the chain
 module _ {A : Type 0} (look : A → ℕ → List ℕ → Seen A) (step : A → ℕ → List ℕ → A)
-    (says : (a : A) (p : ℕ) (pg : List ℕ) (e : ℕ) → judge_leaf pg p ≡ Judged.Ok e → look a p pg ≡ go (step a p pg))
+    (says : (a : A) (p : ℕ) (pg : List ℕ) (e : ℕ) → judge_leaf pg p ≡ Ok e → look a p pg ≡ go (step a p pg))
     (s : List ℕ) (root used : ℕ) (t : Shape) (f : WellFormed (view s) root used t) where
-  pub walk_all : (a : A) → along s used (first t) look used a ≡ ok (gather step s a (locs t top))
-  walk_all a = walk_first look (λ rs. false) step says s used root t f a ∙ ap (λ (ls : List Loc). ok (gather step s a ls)) (up_to_end (locs t top))
+  pub walk_all : (a : A) → along s used (first t) look used a ≡ Ok (gather step s a (locs t top))
+  walk_all a = walk_first look (λ rs. false) step says s used root t f a ∙ ap (λ (ls : List Loc). Ok (gather step s a ls)) (up_to_end (locs t top))

@@ -1,6 +1,7 @@
 -- The climb: the ways out of the step to the page above; the climb that collects into a path, each way that a turn of it
 -- goes, and that it says what the climb without a path says; and what a climb that came to the root says of its pages.
 -- Assumes nothing.
+use Rattle.std.proofs.Common.{Result, Ok, Err}
 use mathlib.Core.Path.{◌≡◌, refl, sym, ap, ◌∙◌, subst}
 use mathlib.Core.Bool.{Bool, true, false}
 use mathlib.Core.List.{List, [], ◌∷◌, ◌++◌}
@@ -18,32 +19,28 @@ use Rattle.row.specs.declared.Fault.{Fault}
 use Rattle.inner.specs.Inner.{child_at, children_from, judge_inner}
 use Rattle.row.specs.Fault.{structural}
 use Rattle.inner.specs.Route.{first_where, child_place}
-use Rattle.inner.specs.declared.InnerJudged.{InnerJudged}
 use Rattle.tree.specs.Descend.{on_inner}
-use Rattle.tree.specs.Climb.{above_from, above_of, on_above, Way, up, astray, way_from, root_way, climb_of, path_of, arrived, lost, climbed}
-use Rattle.tree.specs.Steps.Climb.{at_root}
+use Rattle.tree.specs.Climb.{above_from, above_of, on_above, Way, up, astray, way_from, root_way, climb_of, path_of, climbed}
 use Rattle.tree.specs.declared.climb.Path.{Path}
-use Rattle.tree.specs.declared.climb.Climbed.{Climbed}
-use Rattle.tree.specs.declared.climb.Above.{Above}
 
 -- ---- the page above
 
 module _ (used p q : ℕ) (s : List ℕ) where
-  from_unused : {f : Fault} → used ≤ q → f ≡ structural q → Above.Bad f ≡ above_from s used p q
+  from_unused : {f : Fault} → used ≤ q → f ≡ structural q → Err f ≡ above_from s used p q
   unfolding above_from
   from_unused h e = rw (le-ltb q used h, e)
 
-  module _ {pg : List ℕ} {r : InnerJudged} (h : q < used) (here : pg ≡ page s q) (judged : r ≡ judge_inner pg q) where
-    from_bad : {f : Fault} → r ≡ InnerJudged.Bad f → Above.Bad f ≡ above_from s used p q
+  module _ {pg : List ℕ} {r : Result ℕ Fault} (h : q < used) (here : pg ≡ page s q) (judged : r ≡ judge_inner pg q) where
+    from_bad : {f : Fault} → r ≡ Err f → Err f ≡ above_from s used p q
     unfolding above_from
     from_bad e = rw (lt-ltb q used h, ← here, sym judged ∙ e)
 
-    module _ {n i : ℕ} (e : r ≡ InnerJudged.Ok n) (place : i ≡ child_place p (children_from pg 0 (n + 1))) where
-      from_found : i ≤ n → Above.Page q ≡ above_from s used p q
+    module _ {n i : ℕ} (e : r ≡ Ok n) (place : i ≡ child_place p (children_from pg 0 (n + 1))) where
+      from_found : i ≤ n → Ok q ≡ above_from s used p q
       unfolding above_from
       from_found l = rw (lt-ltb q used h, ← here, sym judged ∙ e, ← place, lt-ltb i (n + 1) (omega arith))
 
-      from_other : {f : Fault} → n < i → f ≡ structural q → Above.Bad f ≡ above_from s used p q
+      from_other : {f : Fault} → n < i → f ≡ structural q → Err f ≡ above_from s used p q
       unfolding above_from
       from_other l u = rw (lt-ltb q used h, ← here, sym judged ∙ e, ← place, le-ltb i (n + 1) (omega arith), u)
 
@@ -51,64 +48,66 @@ module _ (used p : ℕ) (s : List ℕ) {pg₀ : List ℕ} {q : ℕ} (low : pg₀
   from_parent : above_from s used p q ≡ above_of s used p
   from_parent = ap (λ (x : ℕ). above_from s used p x) (parent ∙ ap parent_of low)
 
-  pub above_unused : {f : Fault} → used ≤ q → f ≡ structural q → Above.Bad f ≡ above_of s used p
+  pub above_unused : {f : Fault} → used ≤ q → f ≡ structural q → Err f ≡ above_of s used p
   above_unused h e = from_unused used p q s h e ∙ from_parent
 
-  module _ {pg : List ℕ} {r : InnerJudged} (h : q < used) (here : pg ≡ page s q) (judged : r ≡ judge_inner pg q) where
-    pub above_bad : {f : Fault} → r ≡ InnerJudged.Bad f → Above.Bad f ≡ above_of s used p
+  module _ {pg : List ℕ} {r : Result ℕ Fault} (h : q < used) (here : pg ≡ page s q) (judged : r ≡ judge_inner pg q) where
+    pub above_bad : {f : Fault} → r ≡ Err f → Err f ≡ above_of s used p
     above_bad e = from_bad used p q s h here judged e ∙ from_parent
 
-    module _ {n i : ℕ} (e : r ≡ InnerJudged.Ok n) (place : i ≡ child_place p (children_from pg 0 (n + 1))) where
-      pub above_page : i ≤ n → Above.Page q ≡ above_of s used p
+    module _ {n i : ℕ} (e : r ≡ Ok n) (place : i ≡ child_place p (children_from pg 0 (n + 1))) where
+      pub above_page : i ≤ n → Ok q ≡ above_of s used p
       above_page l = from_found used p q s h here judged e place l ∙ from_parent
 
-      pub above_other : {f : Fault} → n < i → f ≡ structural q → Above.Bad f ≡ above_of s used p
+      pub above_other : {f : Fault} → n < i → f ≡ structural q → Err f ≡ above_of s used p
       above_other l u = from_other used p q s h here judged e place l u ∙ from_parent
-
--- ---- at the root
-
-module _ (p : ℕ) (path : Path) (s : List ℕ) {pg : List ℕ} {q : ℕ} (here : pg ≡ page s p) (parent : q ≡ parent_of pg) where
-  pub top_root : q ≡ 0 → arrived path ≡ at_root s p path
-  top_root e = rw (eq-eqb (parent_of (page s p)) 0 (rw (parent, here) at e))
-
-  pub top_lost : {f : Fault} {r : Climbed} → (q ≡ 0 → ⊥) → f ≡ structural p → r ≡ lost f → r ≡ at_root s p path
-  top_lost z e u = u ∙ rw (e, ne_eqb (parent_of (page s p)) 0 (λ d. z (parent ∙ rw here d)))
 
 -- ---- the climb that collects
 
-abbrev pub step_path : Path → ℕ → Path
-step_path path p = record { pages = set path.pages path.len p; len = path.len + 1 }
+-- at the root, with the path to it
+abbrev pub root_end : List ℕ → ℕ → Path → Result Path Fault
+root_end s p path = pick (eqb (parent_of (page s p)) 0) (Ok path) (Err (structural p))
 
--- from page p, which path does not hold yet, with k more levels above it at most
-unfoldable pub climb_from : (k : ℕ) → (used root p : ℕ) → Path → List ℕ → Climbed
-climb_from zero used root p path s = pick (eqb p root) (at_root s p (step_path path p)) (lost (structural p))
+abbrev pub step_path : Path → ℕ → Path
+step_path path q = record { pages = set path.pages path.len q; len = path.len + 1 }
+
+-- from page p, which path holds already, with k more levels above it at most
+unfoldable pub climb_from : (k : ℕ) → (used root p : ℕ) → Path → List ℕ → Result Path Fault
+climb_from zero used root p path s = pick (eqb p root) (root_end s p path) (Err (structural p))
 climb_from (suc k) used root p path s =
-    pick (eqb p root) (at_root s p (step_path path p)) (on_above (λ q. climb_from k used root q (step_path path p) s) (λ f. lost f) (above_of s used p))
+    pick (eqb p root) (root_end s p path) (on_above (λ q. climb_from k used root q (step_path path q) s) (λ f. Err f) (above_of s used p))
 
 module _ (used root p : ℕ) (path : Path) (s : List ℕ) where
-  pub climb-root : (k : ℕ) {r : Climbed} → p ≡ root → r ≡ at_root s p (step_path path p) → r ≡ climb_from k used root p path s
-  unfolding climb_from
-  climb-root zero h e = e ∙ rw (eq-eqb p root h)
-  climb-root (suc k) h e = e ∙ rw (eq-eqb p root h)
+  module _ {pg : List ℕ} {q : ℕ} (h : p ≡ root) (here : pg ≡ page s root) (parent : q ≡ parent_of pg) where
+    from_root : (k : ℕ) → root_end s p path ≡ climb_from k used root p path s
+    unfolding climb_from
+    from_root zero = rw (eq-eqb p root h)
+    from_root (suc k) = rw (eq-eqb p root h)
+
+    pub climb_top : (k : ℕ) → q ≡ 0 → Ok path ≡ climb_from k used root p path s
+    climb_top k e = (let z : parent_of (page s p) ≡ 0 = rw (h, ← here) (sym parent ∙ e) in rw (eq-eqb (parent_of (page s p)) 0 z)) ∙ from_root k
+
+    pub climb_lost : (k : ℕ) {f : Fault} → (q ≡ 0 → ⊥) → f ≡ structural root → Err f ≡ climb_from k used root p path s
+    climb_lost k z e = (rw (ne_eqb (parent_of (page s p)) 0 (λ d. z (parent ∙ rw (here, ← h) d)), e, h)) ∙ from_root k
 
   module _ (h : p ≡ root → ⊥) where
-    pub climb_high : (k : ℕ) {f : Fault} {r : Climbed} → k ≡ 0 → f ≡ structural p → r ≡ lost f → r ≡ climb_from k used root p path s
+    pub climb_high : (k : ℕ) {f : Fault} → k ≤ 0 → f ≡ structural p → Err f ≡ climb_from k used root p path s
     unfolding climb_from
-    climb_high zero z e u = u ∙ rw (ne_eqb p root h, e)
-    climb_high (suc k) z e u = absurd (omega arith)
+    climb_high zero z e = rw (ne_eqb p root h, e)
+    climb_high (suc k) z e = absurd (omega arith)
 
-    module _ {a : Above} (step : a ≡ above_of s used p) where
-      pub climb_bad : (k : ℕ) {f : Fault} {r : Climbed} → (k ≡ 0 → ⊥) → a ≡ Above.Bad f → r ≡ lost f → r ≡ climb_from k used root p path s
+    module _ {a : Result ℕ Fault} (step : a ≡ above_of s used p) where
+      pub climb_bad : (k : ℕ) {f : Fault} → 0 < k → a ≡ Err f → Err f ≡ climb_from k used root p path s
       unfolding climb_from
-      climb_bad zero z e u = absurd (z refl)
-      climb_bad (suc k) z e u = u ∙ rw (ne_eqb p root h, sym step ∙ e)
+      climb_bad zero z e = absurd (omega arith)
+      climb_bad (suc k) z e = rw (ne_eqb p root h, sym step ∙ e)
 
-      pub climb_on : (k : ℕ) {q : ℕ} → (k ≡ 0 → ⊥) → a ≡ Above.Page q → climb_from (k - 1) used root q (step_path path p) s ≡ climb_from k used root p path s
+      pub climb_on : (k : ℕ) {m q : ℕ} → k ≡ suc m → a ≡ Ok q → climb_from m used root q (step_path path q) s ≡ climb_from k used root p path s
       unfolding climb_from
-      climb_on zero z e = absurd (z refl)
-      climb_on (suc k) z e =
-          let m : suc k - 1 ≡ k = omega arith in
-          rw (ne_eqb p root h, sym step ∙ e, m)
+      climb_on zero z e = absurd (omega arith)
+      climb_on (suc k) {m} z e =
+          let w : m ≡ k = omega arith in
+          rw (ne_eqb p root h, sym step ∙ e, w)
 
 -- ---- and the climb without a path
 
@@ -120,44 +119,48 @@ after-below : (xs : List ℕ) (p : ℕ) (w : Way) → after (xs ++ (p ∷ [])) w
 after-below xs p (up ps) = ap (λ (l : List ℕ). up l) (append_snoc xs p ps)
 after-below xs p (astray f) = refl
 
-path_step : (xs : List ℕ) (p : ℕ) → length xs < 4 → step_path (path_of xs) p ≡ path_of (xs ++ (p ∷ []))
+path_step : (xs : List ℕ) (q : ℕ) → length xs < 4 → step_path (path_of xs) q ≡ path_of (xs ++ (q ∷ []))
 unfolding pad
-path_step xs p h =
-    let l : length (xs ++ (p ∷ [])) ≡ length xs + 1 = length-append xs (p ∷ []) in
+path_step xs q h =
+    let l : length (xs ++ (q ∷ [])) ≡ length xs + 1 = length-append xs (q ∷ []) in
     let m : 4 - length xs ≡ suc (3 - length xs) = omega arith in
     let n : 4 - (length xs + 1) ≡ 3 - length xs = omega arith in
-    rw (l, m, n, set-append_seam xs 0 (zeros (3 - length xs)) p, append_snoc xs p (zeros (3 - length xs)))
+    rw (l, m, n, set-append_seam xs 0 (zeros (3 - length xs)) q, append_snoc xs q (zeros (3 - length xs)))
 
-root_is : (p : ℕ) (xs : List ℕ) (s : List ℕ) → length xs < 4 → at_root s p (step_path (path_of xs) p) ≡ climbed (after xs (root_way s p))
-root_is p xs s h = rw (path_step xs p h) (by_parent (eqb (parent_of (page s p)) 0))
+root_is : (p : ℕ) (xs : List ℕ) (s : List ℕ) → root_end s p (path_of (xs ++ (p ∷ []))) ≡ climbed (after xs (root_way s p))
+root_is p xs s = by_parent (eqb (parent_of (page s p)) 0)
   where
-    by_parent : (b : Bool) → pick b (arrived (path_of (xs ++ (p ∷ [])))) (lost (structural p)) ≡ climbed (after xs (pick b (up (p ∷ [])) (astray (structural p))))
+    by_parent : (b : Bool) → pick b (Ok (path_of (xs ++ (p ∷ [])))) (Err (structural p)) ≡ climbed (after xs (pick b (up (p ∷ [])) (astray (structural p))))
     by_parent true = refl
     by_parent false = refl
 
-from_is : (k used root p : ℕ) (xs : List ℕ) (s : List ℕ) → length xs + k < 4 → climb_from k used root p (path_of xs) s ≡ climbed (after xs (climb_of s used root p k))
+from_is : (k used root p : ℕ) (xs : List ℕ) (s : List ℕ) → length xs + k < 4 → climb_from k used root p (path_of (xs ++ (p ∷ []))) s ≡ climbed (after xs (climb_of s used root p k))
 unfolding climb_from climb_of
 from_is zero used root p xs s h = by_root (eqb p root)
   where
-    by_root : (b : Bool) → pick b (at_root s p (step_path (path_of xs) p)) (lost (structural p)) ≡ climbed (after xs (pick b (root_way s p) (astray (structural p))))
-    by_root true = root_is p xs s (omega arith)
+    by_root : (b : Bool) → pick b (root_end s p (path_of (xs ++ (p ∷ [])))) (Err (structural p)) ≡ climbed (after xs (pick b (root_way s p) (astray (structural p))))
+    by_root true = root_is p xs s
     by_root false = refl
 from_is (suc k) used root p xs s h =
     by_root
     (λ q.
     let l : length (xs ++ (p ∷ [])) ≡ length xs + 1 = length-append xs (p ∷ []) in
-    ap (λ (x : Path). climb_from k used root q x s) (path_step xs p (omega arith))
+    ap (λ (x : Path). climb_from k used root q x s) (path_step (xs ++ (p ∷ [])) q (omega arith))
     ∙ (from_is k used root q (xs ++ (p ∷ [])) s (omega arith) ∙ ap climbed (after-below xs p (climb_of s used root q k))))
     (eqb p root) (above_of s used p)
   where
-    by_root : ((q : ℕ) → climb_from k used root q (step_path (path_of xs) p) s ≡ climbed (after xs (way_from p (climb_of s used root q k)))) → (b : Bool) (a : Above)
-        → pick b (at_root s p (step_path (path_of xs) p)) (on_above (λ q. climb_from k used root q (step_path (path_of xs) p) s) (λ f. lost f) a)
+    by_root : ((q : ℕ) → climb_from k used root q (step_path (path_of (xs ++ (p ∷ []))) q) s ≡ climbed (after xs (way_from p (climb_of s used root q k)))) → (b : Bool) (a : Result ℕ Fault)
+        → pick b (root_end s p (path_of (xs ++ (p ∷ [])))) (on_above (λ q. climb_from k used root q (step_path (path_of (xs ++ (p ∷ []))) q) s) (λ f. Err f) a)
         ≡ climbed (after xs (pick b (root_way s p) (on_above (λ q. way_from p (climb_of s used root q k)) (λ f. astray f) a)))
-    by_root ih true a = root_is p xs s (omega arith)
-    by_root ih false (Above.Page q) = ih q
-    by_root ih false (Above.Bad f) = refl
+    by_root ih true a = root_is p xs s
+    by_root ih false (Ok q) = ih q
+    by_root ih false (Err f) = refl
 
-pub climb-is : (used root p : ℕ) (s : List ℕ) → climb_from 3 used root p (record { pages = zeros 4; len = 0 }) s ≡ climbed (climb_of s used root p 3)
+-- the path that holds the leaf alone
+abbrev pub leaf_path : ℕ → Path
+leaf_path p = record { pages = p ∷ 0 ∷ 0 ∷ 0 ∷ []; len = 1 }
+
+pub climb-is : (used root p : ℕ) (s : List ℕ) → climb_from 3 used root p (leaf_path p) s ≡ climbed (climb_of s used root p 3)
 unfolding pad
 climb-is used root p s = from_is 3 used root p [] s (omega arith) ∙ ap climbed (same (climb_of s used root p 3))
   where
@@ -172,36 +175,36 @@ pub record Held (used p q : ℕ) (s : List ℕ) : Type 0 where
   pub named : parent_of (page s p) ≡ q
   pub in_use : q < used
   pub keys : ℕ
-  pub judged : judge_inner (page s q) q ≡ InnerJudged.Ok keys
+  pub judged : judge_inner (page s q) q ≡ Ok keys
   pub place : child_place p (children_from (page s q) 0 (keys + 1)) ≤ keys
 
 -- what the step to the page above says
-pub held : (used p : ℕ) (s : List ℕ) {q : ℕ} → above_of s used p ≡ Above.Page q → Held used p q s
+pub held : (used p : ℕ) (s : List ℕ) {q : ℕ} → above_of s used p ≡ Ok q → Held used p q s
 unfolding above_from
 held used p s {q} e = by_use (parent_of (page s p)) refl (ltb (parent_of (page s p)) used) refl e
   where
-    by_place : (t n : ℕ) → parent_of (page s p) ≡ t → t < used → judge_inner (page s t) t ≡ InnerJudged.Ok n → (b : Bool)
-        → ltb (child_place p (children_from (page s t) 0 (n + 1))) (n + 1) ≡ b → pick b (Above.Page t) (Above.Bad (structural t)) ≡ Above.Page q → Held used p q s
+    by_place : (t n : ℕ) → parent_of (page s p) ≡ t → t < used → judge_inner (page s t) t ≡ Ok n → (b : Bool)
+        → ltb (child_place p (children_from (page s t) 0 (n + 1))) (n + 1) ≡ b → pick b (Ok t) (Err (structural t)) ≡ Ok q → Held used p q s
     by_place t n z h j true l u =
         let w : t ≡ q = cc in
         let i = ltb-true (child_place p (children_from (page s t) 0 (n + 1))) (n + 1) l in
         subst (λ (x : ℕ). Held used p x s) w (record { named = z; in_use = h; keys = n; judged = j; place = omega arith })
-    by_place t n z h j false l u = absurd (let z : ◌≡◌ {A = ℕ} 0 1 = cc in omega arith)
+    by_place t n z h j false l u = absurd cc
 
-    by_judged : (t : ℕ) → parent_of (page s p) ≡ t → t < used → (r : InnerJudged) → judge_inner (page s t) t ≡ r
-        → on_inner (λ n. pick (ltb (child_place p (children_from (page s t) 0 (n + 1))) (n + 1)) (Above.Page t) (Above.Bad (structural t))) (λ f. Above.Bad f) r ≡ Above.Page q
+    by_judged : (t : ℕ) → parent_of (page s p) ≡ t → t < used → (r : Result ℕ Fault) → judge_inner (page s t) t ≡ r
+        → on_inner (λ n. pick (ltb (child_place p (children_from (page s t) 0 (n + 1))) (n + 1)) (Ok t) (Err (structural t))) (λ f. Err f) r ≡ Ok q
         → Held used p q s
-    by_judged t z h (InnerJudged.Ok n) j u = by_place t n z h j (ltb (child_place p (children_from (page s t) 0 (n + 1))) (n + 1)) refl u
-    by_judged t z h (InnerJudged.Bad f) j u = absurd (let z : ◌≡◌ {A = ℕ} 0 1 = cc in omega arith)
+    by_judged t z h (Ok n) j u = by_place t n z h j (ltb (child_place p (children_from (page s t) 0 (n + 1))) (n + 1)) refl u
+    by_judged t z h (Err f) j u = absurd cc
 
     by_use : (t : ℕ) → parent_of (page s p) ≡ t → (b : Bool) → ltb t used ≡ b
         → pick b
-        (on_inner (λ n. pick (ltb (child_place p (children_from (page s t) 0 (n + 1))) (n + 1)) (Above.Page t) (Above.Bad (structural t))) (λ f. Above.Bad f) (judge_inner (page s t) t))
-        (Above.Bad (structural t))
-        ≡ Above.Page q
+        (on_inner (λ n. pick (ltb (child_place p (children_from (page s t) 0 (n + 1))) (n + 1)) (Ok t) (Err (structural t))) (λ f. Err f) (judge_inner (page s t) t))
+        (Err (structural t))
+        ≡ Ok q
         → Held used p q s
     by_use t z true l u = by_judged t z (ltb-true t used l) (judge_inner (page s t) t) refl u
-    by_use t z false l u = absurd (let z : ◌≡◌ {A = ℕ} 0 1 = cc in omega arith)
+    by_use t z false l u = absurd cc
 
 place_child : (child n i j : ℕ) (pg : List ℕ) → j ≡ i + child_place child (children_from pg i n) → child_place child (children_from pg i n) < n → child_at pg j ≡ child
 unfolding children_from first_where
@@ -231,7 +234,7 @@ module _ (used root : ℕ) (s : List ℕ) where
     where
       by_parent : (b : Bool) → eqb (parent_of (page s p)) 0 ≡ b → pick b (up (p ∷ [])) (astray (structural p)) ≡ up ps → Risen k used root p s ps
       by_parent true q u = record { above = []; is = cc; few = omega arith; rises = (h, eqb-true (parent_of (page s p)) 0 q) }
-      by_parent false q u = absurd (let z : ◌≡◌ {A = ℕ} 0 1 = cc in omega arith)
+      by_parent false q u = absurd cc
 
   -- what a climb that came to the root went through
   pub climb_risen : (k p : ℕ) {ps : List ℕ} → climb_of s used root p k ≡ up ps → Risen k used root p s ps
@@ -240,7 +243,7 @@ module _ (used root : ℕ) (s : List ℕ) where
     where
       by_root : (b : Bool) → eqb p root ≡ b → pick b (root_way s p) (astray (structural p)) ≡ up ps → Risen 0 used root p s ps
       by_root true q u = root_risen 0 p (eqb-true p root q) u
-      by_root false q u = absurd (let z : ◌≡◌ {A = ℕ} 0 1 = cc in omega arith)
+      by_root false q u = absurd cc
   climb_risen (suc k) p {ps} e = by_root (λ q qs u. climb_risen k q {ps = qs} u) (eqb p root) refl e
     where
       by_way : (q : ℕ) (w : Way) → ((qs : List ℕ) → w ≡ up qs → Risen k used root q s qs) → (p ≡ root → ⊥) → Held used p q s → way_from p w ≡ up ps → Risen (suc k) used root p s ps
@@ -249,12 +252,12 @@ module _ (used root : ℕ) (s : List ℕ) where
           let e = r.is in
           let f = r.few in
           record { above = q ∷ r.above; is = cc; few = omega arith; rises = (z, h, r.rises) }
-      by_way q (astray f) ih z h u = absurd (let z : ◌≡◌ {A = ℕ} 0 1 = cc in omega arith)
+      by_way q (astray f) ih z h u = absurd cc
 
-      by_above : ((q : ℕ) (qs : List ℕ) → climb_of s used root q k ≡ up qs → Risen k used root q s qs) → (p ≡ root → ⊥) → (a : Above) → above_of s used p ≡ a
+      by_above : ((q : ℕ) (qs : List ℕ) → climb_of s used root q k ≡ up qs → Risen k used root q s qs) → (p ≡ root → ⊥) → (a : Result ℕ Fault) → above_of s used p ≡ a
           → on_above (λ q. way_from p (climb_of s used root q k)) (λ f. astray f) a ≡ up ps → Risen (suc k) used root p s ps
-      by_above ih z (Above.Page q) t u = by_way q (climb_of s used root q k) (ih q) z (held used p s t) u
-      by_above ih z (Above.Bad f) t u = absurd (let z : ◌≡◌ {A = ℕ} 0 1 = cc in omega arith)
+      by_above ih z (Ok q) t u = by_way q (climb_of s used root q k) (ih q) z (held used p s t) u
+      by_above ih z (Err f) t u = absurd cc
 
       by_root : ((q : ℕ) (qs : List ℕ) → climb_of s used root q k ≡ up qs → Risen k used root q s qs) → (b : Bool) → eqb p root ≡ b
           → pick b (root_way s p) (on_above (λ q. way_from p (climb_of s used root q k)) (λ f. astray f) (above_of s used p)) ≡ up ps → Risen (suc k) used root p s ps
@@ -330,11 +333,11 @@ path_is used root p s {ps} h e =
 
 -- ---- the code's answer
 
-pub record Reached (w : Way) (r : Climbed) : Type 0 where
+pub record Reached (w : Way) (path : Path) : Type 0 where
   pub pages : List ℕ
   pub way : w ≡ up pages
-  pub path : r.path ≡ path_of pages
+  pub is : path ≡ path_of pages
 
-pub reached : (w : Way) {r : Climbed} → r ≡ climbed w → r.ok ≡ true → Reached w r
-reached (up ps) e t = record { pages = ps; way = refl; path = rw e }
-reached (astray f) e t = absurd (let z : ◌≡◌ {A = Bool} false true = rw e at t in let y : ◌≡◌ {A = ℕ} 0 1 = cc in omega arith)
+pub reached : (w : Way) {r : Result Path Fault} {path : Path} → r ≡ climbed w → r ≡ Ok path → Reached w path
+reached (up ps) {path = path} e t = record { pages = ps; way = refl; is = let u : ◌≡◌ {A = Result Path Fault} (Ok path) (Ok (path_of ps)) = sym t ∙ e in cc }
+reached (astray f) {path = path} e t = absurd (let u : ◌≡◌ {A = Result Path Fault} (Ok path) (Err f) = sym t ∙ e in cc)

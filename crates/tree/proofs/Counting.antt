@@ -1,5 +1,6 @@
 -- The theorems of specs/ChainFacts.antt: counting the leaves of a walk ends it exactly where a page would be met twice.
 -- Numbers below n that stand once each are at most n; and a walk that comes back to a page never ends. Assumes nothing.
+use Rattle.std.proofs.Common.{Result, Ok, Err}
 use mathlib.Core.Path.{◌≡◌, refl, sym, ap, ◌∙◌, subst}
 use mathlib.Core.Bool.{Bool, true, false, not, ◌&&◌, ◌||◌}
 use mathlib.Core.List.{List, [], ◌∷◌}
@@ -16,11 +17,8 @@ use Rattle.row.specs.Fault.{structural}
 use Rattle.mvcc.specs.Lists.{mem}
 use Rattle.leaf.specs.Cells.{cells, judge_leaf, on_judged, has_larger}
 use Rattle.leaf.specs.Find.{find_leaf, test_leaf}
-use Rattle.leaf.specs.declared.Judged.{Judged}
-use Rattle.leaf.specs.declared.find.Best.{Best}
-use Rattle.leaf.specs.declared.find.LeafBest.{LeafBest}
-use Rattle.leaf.specs.declared.find.LeafTest.{LeafTest}
-use Rattle.tree.specs.Chain.{Seen, stop, go, broken, Told, ok, ill, along, seen_best, seen_test, look_best, look_test}
+use Rattle.leaf.specs.Find.{Best}
+use Rattle.tree.specs.Chain.{Seen, stop, go, broken, along, seen_best, seen_test, look_best, look_test}
 use Rattle.tree.specs.ChainFacts.{meets, turn, Steady, CountIsEnough, Ill, TwiceIsIll}
 use Rattle.tree.specs.Distinct.{distinct}
 use Rattle.mvcc.specs.Snapshot.{Snapshot}
@@ -47,7 +45,7 @@ without-mem x z (y ∷ ys) e = by_tests (eqb y x) (eqb y z) refl (without-mem x 
   where
     by_tests : (a b : Bool) → eqb y z ≡ b → (mem z ys ≡ false → mem z (without x ys) ≡ false) → (b || mem z ys) ≡ false
         → mem z (pick a (without x ys) (y ∷ without x ys)) ≡ false
-    by_tests a true q ih t = absurd (let z : ◌≡◌ {A = ℕ} 0 1 = cc in omega arith)
+    by_tests a true q ih t = absurd cc
     by_tests true false q ih t = ih t
     by_tests false false q ih t = rw q (ih t)
 
@@ -57,7 +55,7 @@ without-none x [] e = refl
 without-none x (y ∷ ys) e = by_test (eqb y x) (without-none x ys) e
   where
     by_test : (a : Bool) → (mem x ys ≡ false → without x ys ≡ ys) → (a || mem x ys) ≡ false → pick a (without x ys) (y ∷ without x ys) ≡ y ∷ ys
-    by_test true ih t = absurd (let z : ◌≡◌ {A = ℕ} 0 1 = cc in omega arith)
+    by_test true ih t = absurd cc
     by_test false ih t = rw (ih t)
 
 without-distinct : (x : ℕ) (l : List ℕ) → distinct l ≡ true → (distinct (without x l) ≡ true) × (length l ≤ suc (length (without x l)))
@@ -97,8 +95,8 @@ module _ {A : Type 0} (look : A → ℕ → List ℕ → Seen A) (used : ℕ) (s
 
   -- the page is not in use; or the walk ends there; or it goes on
   data View (a : A) (p : ℕ) : Type 0 where
-    out : used ≤ p → ((m : ℕ) → along s used p look (suc m) a ≡ ill (structural p)) → ((m : ℕ) → meets s used p look (suc m) a ≡ []) → View a p
-    last : (t : Told A) → p < used → (turn (look a p (page s p)) ≡ 1 → (next p ≡ 0 → ⊥) → ⊥) → ((m : ℕ) → along s used p look (suc m) a ≡ t)
+    out : used ≤ p → ((m : ℕ) → along s used p look (suc m) a ≡ Err (structural p)) → ((m : ℕ) → meets s used p look (suc m) a ≡ []) → View a p
+    last : (t : Result A Fault) → p < used → (turn (look a p (page s p)) ≡ 1 → (next p ≡ 0 → ⊥) → ⊥) → ((m : ℕ) → along s used p look (suc m) a ≡ t)
         → ((m : ℕ) → meets s used p look (suc m) a ≡ p ∷ []) → View a p
     on : (b : A) → p < used → turn (look a p (page s p)) ≡ 1 → (next p ≡ 0 → ⊥) → ((m : ℕ) → along s used p look (suc m) a ≡ along s used (next p) look m b)
         → ((m : ℕ) → meets s used p look (suc m) a ≡ p ∷ meets s used (next p) look m b) → View a p
@@ -109,9 +107,9 @@ module _ {A : Type 0} (look : A → ℕ → List ℕ → Seen A) (used : ℕ) (s
     where
       by_tests : (t : Bool) → ltb p used ≡ t → (r : Seen A) → look a p (page s p) ≡ r → (z : Bool) → eqb (next p) 0 ≡ z → View a p
       by_tests false l r q z e = out (ltb-false p used l) (λ m. rw l) (λ m. rw l)
-      by_tests true l (stop b) q z e = last (ok b) (ltb-true p used l) (λ t n. absurd (let z : ◌≡◌ {A = ℕ} 0 1 = cc in omega arith)) (λ m. rw (l, q)) (λ m. rw (l, q))
-      by_tests true l (broken f) q z e = last (ill f) (ltb-true p used l) (λ t n. absurd (let z : ◌≡◌ {A = ℕ} 1 2 = cc in omega arith)) (λ m. rw (l, q)) (λ m. rw (l, q))
-      by_tests true l (go b) q true e = last (ok b) (ltb-true p used l) (λ t n. n (eqb-true (next p) 0 e)) (λ m. rw (l, q, e)) (λ m. rw (l, q, e))
+      by_tests true l (stop b) q z e = last (Ok b) (ltb-true p used l) (λ t n. absurd cc) (λ m. rw (l, q)) (λ m. rw (l, q))
+      by_tests true l (broken f) q z e = last (Err f) (ltb-true p used l) (λ t n. absurd cc) (λ m. rw (l, q)) (λ m. rw (l, q))
+      by_tests true l (go b) q true e = last (Ok b) (ltb-true p used l) (λ t n. n (eqb-true (next p) 0 e)) (λ m. rw (l, q, e)) (λ m. rw (l, q, e))
       by_tests true l (go b) q false e = on b (ltb-true p used l) (rw q) (eqb-false (next p) 0 e) (λ m. rw (l, q, e)) (λ m. rw (l, q, e))
 
   met-below : (m : ℕ) (a : A) (p : ℕ) → AllBelow used (meets s used p look m a)
@@ -131,7 +129,7 @@ module _ {A : Type 0} (look : A → ℕ → List ℕ → Seen A) (used : ℕ) (s
   along-same (suc k) zero a p h l = absurd (omega arith)
   along-same zero (suc m) a p h l = by_view (view a p)
     where
-      by_view : View a p → along s used p look (suc m) a ≡ ill (structural p)
+      by_view : View a p → along s used p look (suc m) a ≡ Err (structural p)
       by_view (out h w v) = w m
       by_view (last t h n w v) = absurd (let e : length (meets s used p look (suc m) a) ≡ 1 = ap length (v m) in omega arith)
       by_view (on b h g n w v) = absurd (let e : length (meets s used p look (suc m) a) ≡ suc (length (meets s used (next p) look m b)) = ap length (v m) in omega arith)
@@ -179,7 +177,7 @@ module _ {A : Type 0} (look : A → ℕ → List ℕ → Seen A) (steady : Stead
   -- a page that is met runs no longer than the page where the walk began
   met_runs : (m : ℕ) (a : A) (p x : ℕ) → mem x (meets s used p look m a) ≡ true → (k : ℕ) → Runs k x → Runs k p
   unfolding mem meets
-  met_runs zero a p x e k r = absurd (let z : ◌≡◌ {A = ℕ} 0 1 = cc in omega arith)
+  met_runs zero a p x e k r = absurd cc
   met_runs (suc m) a p x e k r = by_view (view look used s a p) (λ b i. met_runs m b (next_leaf (page s p)) x i k r)
     where
       by_test : (t : Bool) → eqb p x ≡ t → (l : List ℕ) → (mem x l ≡ true → Runs k p) → (t || mem x l) ≡ true → Runs k p
@@ -187,8 +185,8 @@ module _ {A : Type 0} (look : A → ℕ → List ℕ → Seen A) (steady : Stead
       by_test false q l ih u = ih u
 
       by_view : View look used s a p → ((b : A) → mem x (meets s used (next_leaf (page s p)) look m b) ≡ true → Runs k (next_leaf (page s p))) → Runs k p
-      by_view (out h w v) ih = absurd (let z : ◌≡◌ {A = Bool} false true = ap (mem x) (sym (v m)) ∙ e in let y : ◌≡◌ {A = ℕ} 0 1 = cc in omega arith)
-      by_view (last t h n w v) ih = by_test (eqb p x) refl [] (λ u. absurd (let z : ◌≡◌ {A = ℕ} 0 1 = cc in omega arith)) (ap (mem x) (sym (v m)) ∙ e)
+      by_view (out h w v) ih = absurd (let z : ◌≡◌ {A = Bool} false true = ap (mem x) (sym (v m)) ∙ e in cc)
+      by_view (last t h n w v) ih = by_test (eqb p x) refl [] (λ u. absurd cc) (ap (mem x) (sym (v m)) ∙ e)
       by_view (on b h g n w v) ih =
           by_test (eqb p x) refl (meets s used (next_leaf (page s p)) look m b)
           (λ u. runs_less k p (record { in_use = h; turns = λ c. steady c a p (page s p) ∙ g; more = n }, ih b u))
@@ -200,7 +198,7 @@ module _ {A : Type 0} (look : A → ℕ → List ℕ → Seen A) (steady : Stead
 
   twice_runs : (m : ℕ) (a : A) (p : ℕ) → distinct (meets s used p look m a) ≡ false → (k : ℕ) → Runs k p
   unfolding distinct mem meets
-  twice_runs zero a p e = absurd (let z : ◌≡◌ {A = ℕ} 0 1 = cc in omega arith)
+  twice_runs zero a p e = absurd cc
   twice_runs (suc m) a p e = by_view (view look used s a p) (λ b i. twice_runs m b (next_leaf (page s p)) i)
     where
       by_mem : Goes p → (b : A) (t : Bool) → mem p (meets s used (next_leaf (page s p)) look m b) ≡ t
@@ -210,8 +208,8 @@ module _ {A : Type 0} (look : A → ℕ → List ℕ → Seen A) (steady : Stead
       by_mem g b false q ih u k = runs_less k p (g, ih u k)
 
       by_view : View look used s a p → ((b : A) → distinct (meets s used (next_leaf (page s p)) look m b) ≡ false → (k : ℕ) → Runs k (next_leaf (page s p))) → (k : ℕ) → Runs k p
-      by_view (out h w v) ih = absurd (let z : ◌≡◌ {A = Bool} true false = ap distinct (sym (v m)) ∙ e in let y : ◌≡◌ {A = ℕ} 0 1 = cc in omega arith)
-      by_view (last t h n w v) ih = absurd (let z : ◌≡◌ {A = Bool} true false = ap distinct (sym (v m)) ∙ e in let y : ◌≡◌ {A = ℕ} 0 1 = cc in omega arith)
+      by_view (out h w v) ih = absurd (let z : ◌≡◌ {A = Bool} true false = ap distinct (sym (v m)) ∙ e in cc)
+      by_view (last t h n w v) ih = absurd (let z : ◌≡◌ {A = Bool} true false = ap distinct (sym (v m)) ∙ e in cc)
       by_view (on b h g n w v) ih =
           by_mem (record { in_use = h; turns = λ c. steady c a p (page s p) ∙ g; more = n }) b (mem p (meets s used (next_leaf (page s p)) look m b)) refl (ih b) (ap distinct (sym (v m)) ∙ e)
 
@@ -222,22 +220,22 @@ twice_is-ill A look steady used m a p s d = runs_ill look steady used s used a p
 
 -- a leaf's judgement, and whether it holds a larger key, decide whether the walk goes on
 by_leaf : {A B : Type 0} (seen : B → Seen A) (good : A → Bool → B) (bad : Fault → B) → ((a b : A) (l : Bool) → turn (seen (good a l)) ≡ turn (seen (good b l)))
-    → (a b : A) (l : Bool) (j : Judged) → turn (seen (on_judged (λ e. good a l) bad j)) ≡ turn (seen (on_judged (λ e. good b l) bad j))
-by_leaf seen good bad h a b l (Judged.Ok e) = h a b l
-by_leaf seen good bad h a b l (Judged.Bad f) = refl
+    → (a b : A) (l : Bool) (j : Result ℕ Fault) → turn (seen (on_judged (λ e. good a l) bad j)) ≡ turn (seen (on_judged (λ e. good b l) bad j))
+by_leaf seen good bad h a b l (Ok e) = h a b l
+by_leaf seen good bad h a b l (Err f) = refl
 
-best-turn : (a b : Best) (l : Bool) → turn (seen_best (LeafBest.Ok a l)) ≡ turn (seen_best (LeafBest.Ok b l))
+best-turn : (a b : Best) (l : Bool) → turn (seen_best (Ok (a, l))) ≡ turn (seen_best (Ok (b, l)))
 best-turn a b true = refl
 best-turn a b false = refl
 
 pub steady_best : (sn : Snapshot) (st : ℕ → ℕ) (key : ℕ) → Steady (look_best key sn st)
 unfolding find_leaf
-steady_best sn st key a b p pg = by_leaf seen_best (λ x l. LeafBest.Ok x l) (λ f. LeafBest.Bad f) best-turn _ _ (has_larger key (cells pg)) (judge_leaf pg p)
+steady_best sn st key a b p pg = by_leaf seen_best (λ x l. Ok (x, l)) (λ f. Err f) best-turn _ _ (has_larger key (cells pg)) (judge_leaf pg p)
 
-test_turn : (a b l : Bool) → turn (seen_test (LeafTest.Ok a l)) ≡ turn (seen_test (LeafTest.Ok b l))
+test_turn : (a b l : Bool) → turn (seen_test (Ok (a, l))) ≡ turn (seen_test (Ok (b, l)))
 test_turn a b true = refl
 test_turn a b false = refl
 
 pub steady_test : (claiming : Bool) (sn : Snapshot) (st : ℕ → ℕ) (seen key : ℕ) → Steady (look_test key sn st claiming seen)
 unfolding test_leaf
-steady_test claiming sn st seen key a b p pg = by_leaf seen_test (λ x l. LeafTest.Ok x l) (λ f. LeafTest.Bad f) test_turn _ _ (has_larger key (cells pg)) (judge_leaf pg p)
+steady_test claiming sn st seen key a b p pg = by_leaf seen_test (λ x l. Ok (x, l)) (λ f. Err f) test_turn _ _ (has_larger key (cells pg)) (judge_leaf pg p)

@@ -1,18 +1,13 @@
 -- The walk along the chain of leaves (document 01, sections 3 and 5): "follows the chain, past empty leaves, until a leaf
 -- holds a larger key or the chain ends". Each leaf is in use and judged whole. More leaves than pages in use means that a
 -- page is met twice.
-use Rattle.std.specs.Prelude.{Bool, true, false, List, ℕ, zero, suc, ltb, eqb}
+use Rattle.std.specs.Prelude.{None, Result, Ok, Err, Bool, true, false, List, ℕ, zero, suc, ltb, eqb}
 use Rattle.store.specs.Pick.{pick}
 use Rattle.page.specs.Page.{page}
 use Rattle.page.specs.Header.{next_leaf}
 use Rattle.row.specs.declared.Fault.{Fault}
 use Rattle.row.specs.Fault.{structural}
-use Rattle.leaf.specs.Find.{find_leaf, test_leaf}
-use Rattle.leaf.specs.declared.find.Best.{Best}
-use Rattle.leaf.specs.declared.find.LeafBest.{LeafBest}
-use Rattle.leaf.specs.declared.find.LeafTest.{LeafTest}
-use Rattle.tree.specs.declared.ChainBest.{ChainBest}
-use Rattle.tree.specs.declared.ChainTest.{ChainTest}
+use Rattle.leaf.specs.Find.{Best, find_leaf, test_leaf}
 use Rattle.mvcc.specs.Snapshot.{Snapshot}
 
 -- what one leaf says: the walk ends here, or it goes on; or the leaf's fault
@@ -21,54 +16,41 @@ pub data Seen (A : Type 0) : Type 0 where
   go : A → Seen A
   broken : Fault → Seen A
 
--- what the walk says: what was gathered, or the first fault
-pub data Told (A : Type 0) : Type 0 where
-  ok : A → Told A
-  ill : Fault → Told A
-
 abbrev pub on_seen : {A B : Type 0} → (A → B) → (A → B) → (Fault → B) → Seen A → B
 on_seen last more bad (stop a) = last a
 on_seen last more bad (go a) = more a
 on_seen last more bad (broken f) = bad f
 
--- from page p, m pages left to meet; a says what was gathered so far
-unfoldable pub along : {A : Type 0} → List ℕ → (used : ℕ) → ℕ → (A → ℕ → List ℕ → Seen A) → (m : ℕ) → A → Told A
-along s used p look zero a = ill (structural p)
+-- from page p, m pages left to meet; a says what was gathered so far. The walk answers what was gathered, or the first fault.
+unfoldable pub along : {A : Type 0} → List ℕ → (used : ℕ) → ℕ → (A → ℕ → List ℕ → Seen A) → (m : ℕ) → A → Result A Fault
+along s used p look zero a = Err (structural p)
 along s used p look (suc m) a =
     pick (ltb p used)
-    (on_seen (λ b. ok b) (λ b. pick (eqb (next_leaf (page s p)) 0) (ok b) (along s used (next_leaf (page s p)) look m b)) (λ f. ill f) (look a p (page s p)))
-    (ill (structural p))
+    (on_seen (λ b. Ok b) (λ b. pick (eqb (next_leaf (page s p)) 0) (Ok b) (along s used (next_leaf (page s p)) look m b)) (λ f. Err f) (look a p (page s p)))
+    (Err (structural p))
 
 -- ---- lookup: the newest visible version of the key
 
-abbrev pub seen_best : LeafBest → Seen Best
-seen_best (LeafBest.Ok b true) = stop b
-seen_best (LeafBest.Ok b false) = go b
-seen_best (LeafBest.Bad f) = broken f
-
-abbrev pub told_best : Told Best → ChainBest
-told_best (ok b) = ChainBest.Ok b
-told_best (ill f) = ChainBest.Bad f
+abbrev pub seen_best : Result (Best × Bool) Fault → Seen Best
+seen_best (Ok (b, true)) = stop b
+seen_best (Ok (b, false)) = go b
+seen_best (Err f) = broken f
 
 abbrev pub look_best : (key : ℕ) → Snapshot → (ℕ → ℕ) → Best → ℕ → List ℕ → Seen Best
 look_best key sn st best p pg = seen_best (find_leaf pg p key sn st best)
 
-unfoldable pub best_along : List ℕ → (used p key : ℕ) → Snapshot → (ℕ → ℕ) → ChainBest
-best_along s used p key sn st = told_best (along s used p (look_best key sn st) used Best.Nothing)
+unfoldable pub best_along : List ℕ → (used p key : ℕ) → Snapshot → (ℕ → ℕ) → Result Best Fault
+best_along s used p key sn st = along s used p (look_best key sn st) used None
 
 -- ---- conflict: whether some version of the key meets the test
 
-abbrev pub seen_test : LeafTest → Seen Bool
-seen_test (LeafTest.Ok b true) = stop b
-seen_test (LeafTest.Ok b false) = go b
-seen_test (LeafTest.Bad f) = broken f
-
-abbrev pub told_test : Told Bool → ChainTest
-told_test (ok b) = ChainTest.Ok b
-told_test (ill f) = ChainTest.Bad f
+abbrev pub seen_test : Result (Bool × Bool) Fault → Seen Bool
+seen_test (Ok (b, true)) = stop b
+seen_test (Ok (b, false)) = go b
+seen_test (Err f) = broken f
 
 abbrev pub look_test : (key : ℕ) → Snapshot → (ℕ → ℕ) → Bool → (seen : ℕ) → Bool → ℕ → List ℕ → Seen Bool
 look_test key sn st claiming seen found p pg = seen_test (test_leaf pg p key sn st claiming seen found)
 
-unfoldable pub test_along : List ℕ → (used p key : ℕ) → Snapshot → (ℕ → ℕ) → Bool → (seen : ℕ) → ChainTest
-test_along s used p key sn st claiming seen = told_test (along s used p (look_test key sn st claiming seen) used false)
+unfoldable pub test_along : List ℕ → (used p key : ℕ) → Snapshot → (ℕ → ℕ) → Bool → (seen : ℕ) → Result Bool Fault
+test_along s used p key sn st claiming seen = along s used p (look_test key sn st claiming seen) used false

@@ -1,13 +1,13 @@
 -- What counting the leaves of a walk has to do with "no page met twice on a path or chain" (document 01, section 3). The
 -- walk counts at most as many leaves as there are pages in use; the statements say that this count ends it exactly where a
 -- page would be met twice.
-use Rattle.std.specs.Prelude.{◌≡◌, true, false, List, [], ◌∷◌, ℕ, zero, suc, ◌≤◌, ltb, eqb}
+use Rattle.std.specs.Prelude.{◌≡◌, true, false, List, [], ◌∷◌, ℕ, zero, suc, ◌≤◌, ltb, eqb, Result, Err}
 use Rattle.store.specs.Pick.{pick}
 use Rattle.page.specs.Page.{page}
 use Rattle.page.specs.Header.{next_leaf}
 use Rattle.row.specs.declared.Fault.{Fault}
 use Rattle.tree.specs.Distinct.{distinct}
-use Rattle.tree.specs.Chain.{Seen, Told, ill, on_seen, along}
+use Rattle.tree.specs.Chain.{Seen, on_seen, along}
 
 -- the pages that a walk meets, m at most
 unfoldable pub meets : {A : Type 0} → List ℕ → (used : ℕ) → ℕ → (A → ℕ → List ℕ → Seen A) → (m : ℕ) → A → List ℕ
@@ -32,9 +32,9 @@ CountIsEnough A =
     → along s used p look m a ≡ along s used p look used a
 
 -- where some walk meets a page twice, the answer is a fault
-pub record Ill {A : Type 0} (t : Told A) : Type 0 where
+pub record Ill {A : Type 0} (t : Result A Fault) : Type 0 where
   pub fault : Fault
-  pub is : t ≡ ill fault
+  pub is : t ≡ Err fault
 
 abbrev pub TwiceIsIll : Type 0 → Type 0
 TwiceIsIll A =

@@ -1,34 +1,32 @@
 -- The way up from a leaf (document 01, section 3): "climbs from its leaf by parent links to the root, collecting the page
 -- numbers of at most four levels; each parent must be internal and hold the child, the root's parent must be 0". A parent
 -- is judged as any page that is read: in use, 1 to 510 non-decreasing keys.
-use Rattle.std.specs.Prelude.{true, false, List, [], ◌∷◌, ℕ, zero, suc, ◌+◌, ltb, eqb, length}
+use Rattle.std.specs.Prelude.{Result, Ok, Err, List, [], ◌∷◌, ℕ, zero, suc, ◌+◌, ltb, eqb, length}
 use Rattle.store.specs.Pick.{pick}
-use Rattle.store.specs.Part.{pad, zeros}
+use Rattle.store.specs.Part.{pad}
 use Rattle.page.specs.Page.{page}
 use Rattle.page.specs.Header.{parent_of}
 use Rattle.row.specs.declared.Fault.{Fault}
 use Rattle.inner.specs.Inner.{children_from, judge_inner}
-use Rattle.row.specs.Fault.{structural, no_fault}
+use Rattle.row.specs.Fault.{structural}
 use Rattle.inner.specs.Route.{child_place}
 use Rattle.tree.specs.Descend.{on_inner}
 use Rattle.tree.specs.declared.climb.Path.{Path}
-use Rattle.tree.specs.declared.climb.Climbed.{Climbed}
-use Rattle.tree.specs.declared.climb.Above.{Above}
 
 -- q, the parent that page p names, is in use, internal, judged, and holds p
-unfoldable pub above_from : List ℕ → (used p q : ℕ) → Above
+unfoldable pub above_from : List ℕ → (used p q : ℕ) → Result ℕ Fault
 above_from s used p q =
     pick (ltb q used)
-    (on_inner (λ n. pick (ltb (child_place p (children_from (page s q) 0 (n + 1))) (n + 1)) (Above.Page q) (Above.Bad (structural q))) (λ f. Above.Bad f)
+    (on_inner (λ n. pick (ltb (child_place p (children_from (page s q) 0 (n + 1))) (n + 1)) (Ok q) (Err (structural q))) (λ f. Err f)
     (judge_inner (page s q) q))
-    (Above.Bad (structural q))
+    (Err (structural q))
 
-abbrev pub above_of : List ℕ → (used p : ℕ) → Above
+abbrev pub above_of : List ℕ → (used p : ℕ) → Result ℕ Fault
 above_of s used p = above_from s used p (parent_of (page s p))
 
-abbrev pub on_above : {A : Type 0} → (ℕ → A) → (Fault → A) → Above → A
-on_above good ill (Above.Page q) = good q
-on_above good ill (Above.Bad f) = ill f
+abbrev pub on_above : {A : Type 0} → (ℕ → A) → (Fault → A) → Result ℕ Fault → A
+on_above good ill (Ok q) = good q
+on_above good ill (Err f) = ill f
 
 -- the page numbers from a page up to the root, or the fault that ends the climb
 pub data Way : Type 0 where
@@ -52,12 +50,6 @@ climb_of s used root p (suc k) = pick (eqb p root) (root_way s p) (on_above (λ 
 abbrev pub path_of : List ℕ → Path
 path_of ps = record { pages = pad 4 ps; len = length ps }
 
-abbrev pub arrived : Path → Climbed
-arrived path = record { ok = true; fault = no_fault; path = path }
-
-abbrev pub lost : Fault → Climbed
-lost f = record { ok = false; fault = f; path = record { pages = zeros 4; len = 0 } }
-
-abbrev pub climbed : Way → Climbed
-climbed (up ps) = arrived (path_of ps)
-climbed (astray f) = lost f
+abbrev pub climbed : Way → Result Path Fault
+climbed (up ps) = Ok (path_of ps)
+climbed (astray f) = Err f

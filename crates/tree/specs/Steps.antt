@@ -1,2 +1,2 @@
 -- Steps of the code and needs of its stores, which only contracts inside cite.
-pub mod Climb
+pub mod Descend

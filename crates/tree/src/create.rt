@@ -21,12 +21,10 @@ pub fn make_root(pool: &mut [u8], st: State) -> State
     ensures pool_after { pool.new ≡ created_pool pool.old st }
 {
     let fresh = page::pool::allocate(pool, st);
-    let after = fresh.state;
-    let a = fresh.page as usize * page::PAGE_SIZE;
-    let e = a + page::PAGE_SIZE;
-    write_root(&mut pool[a..e]);
+    let start = fresh.page as usize * page::PAGE_SIZE;
+    write_root(&mut pool[start..start + page::PAGE_SIZE]);
     State {
         root: fresh.page,
-        used: after.used,
+        ..fresh.state
     }
 }

@@ -1,5 +1,6 @@
 -- The walk that judges a tree from its last leaf to its first says yes exactly where the tree is well-formed. Assumes
 -- nothing.
+use Rattle.std.proofs.Common.{Option, Some, None}
 use mathlib.Core.Path.{◌≡◌, refl, sym, ap, ◌∙◌}
 use mathlib.Core.Bool.{Bool, true, false, not, ◌&&◌, and_assoc, and-true, and-false, and_comm}
 use mathlib.Core.List.{List, [], ◌∷◌, ◌++◌, append-nil, append_assoc}
@@ -16,7 +17,6 @@ use Rattle.tree_check.specs.Check.{sound_inner, sound_kids, sound_tree, each_of,
 use Rattle.tree_check.specs.Steps.Check.{on_first, kids_of, check_of, is_first}
 use Rattle.tree.specs.Distinct.{distinct}
 use Rattle.tree_check.specs.Steps.CheckFacts.{CheckIsWell}
-use Rattle.tree_check.specs.declared.Verdict.{Verdict}
 use Rattle.tree_check.proofs.Parting.{children-count, links_part}
 
 -- ---- a stretch of the chain
@@ -92,14 +92,14 @@ sound_last f pg (suc j) i lo hi =
 
 -- ---- what the walk says of a subtree
 
-abbrev told : (ok : Bool) → List ℕ → Verdict
-told ok leaves = pick ok (Verdict.First (front leaves)) Verdict.Ill
+abbrev told : (ok : Bool) → List ℕ → Option ℕ
+told ok leaves = pick ok (Some (front leaves)) None
 
-first-pick : (t : Bool) (q : ℕ) (g : ℕ → Verdict) → on_first g Verdict.Ill (pick t (Verdict.First q) Verdict.Ill) ≡ pick t (g q) Verdict.Ill
+first-pick : (t : Bool) (q : ℕ) (g : ℕ → Option ℕ) → on_first g None (pick t (Some q) None) ≡ pick t (g q) None
 first-pick true q g = refl
 first-pick false q g = refl
 
-pick_picks : (t z u : Bool) (v : Verdict) → pick t (pick z Verdict.Ill (pick u v Verdict.Ill)) Verdict.Ill ≡ pick (t && (not z && u)) v Verdict.Ill
+pick_picks : (t z u : Bool) (v : Option ℕ) → pick t (pick z None (pick u v None)) None ≡ pick (t && (not z && u)) v None
 pick_picks true true u v = refl
 pick_picks true false u v = refl
 pick_picks false z u v = refl
@@ -116,7 +116,7 @@ leaves_some zero s p = omega arith
 leaves_some (suc k) s p = rw (children-count (page s p), length-append) (let h = leaves_some k s (child_at (page s p) 0) in omega arith)
 
 -- the children, where f judges each as S and the links of its leaves L say
-module _ (s pg : List ℕ) (f : ℕ → ℕ → ℕ → ℕ → Verdict) (S : ℕ → ℕ → ℕ → Bool) (L : ℕ → List ℕ) (some : (c : ℕ) → 0 < length (L c)) (judged : (c lo hi next : ℕ) → f c lo hi next ≡ told (S c lo hi && linked_to s next (L c)) (L c)) where
+module _ (s pg : List ℕ) (f : ℕ → ℕ → ℕ → ℕ → Option ℕ) (S : ℕ → ℕ → ℕ → Bool) (L : ℕ → List ℕ) (some : (c : ℕ) → 0 < length (L c)) (judged : (c lo hi next : ℕ) → f c lo hi next ≡ told (S c lo hi && linked_to s next (L c)) (L c)) where
   each_some : (j : ℕ) → 0 < length (each_of L (children_from pg 0 (suc j)))
   unfolding each_of children_from
   each_some j = rw length-append (let h = some (child_at pg 0) in omega arith)
@@ -152,14 +152,14 @@ module _ (s pg : List ℕ) (f : ℕ → ℕ → ℕ → ℕ → Verdict) (S : �
       let B = S c (key_at pg j) hi in
       let X = linked_to s next (L c) in
       let Y = linked_to s (front (L c)) P in
-      ap (λ (v : Verdict). on_first (λ q. pick (eqb q 0) Verdict.Ill (kids_of pg f lo j (key_at pg j) q)) Verdict.Ill v) (judged c (key_at pg j) hi next)
-      ∙ (first-pick (B && X) (front (L c)) (λ q. pick (eqb q 0) Verdict.Ill (kids_of pg f lo j (key_at pg j) q))
-      ∙ (ap (λ (v : Verdict). pick (B && X) (pick (eqb (front (L c)) 0) Verdict.Ill v) Verdict.Ill) (kids_told j lo (key_at pg j) (front (L c)))
-      ∙ (pick_picks (B && X) (eqb (front (L c)) 0) (A && Y) (Verdict.First (front P))
+      ap (λ (v : Option ℕ). on_first (λ q. pick (eqb q 0) None (kids_of pg f lo j (key_at pg j) q)) None v) (judged c (key_at pg j) hi next)
+      ∙ (first-pick (B && X) (front (L c)) (λ q. pick (eqb q 0) None (kids_of pg f lo j (key_at pg j) q))
+      ∙ (ap (λ (v : Option ℕ). pick (B && X) (pick (eqb (front (L c)) 0) None v) None) (kids_told j lo (key_at pg j) (front (L c)))
+      ∙ (pick_picks (B && X) (eqb (front (L c)) 0) (A && Y) (Some (front P))
       ∙ (ap (λ (t : Bool). told t P) (and_order B A Y X (not (eqb (front (L c)) 0)))
       ∙ kids_more j lo hi next))))
 
-pick_and : (a b c : Bool) (v : Verdict) → pick a (pick (b && c) v Verdict.Ill) Verdict.Ill ≡ pick ((a && b) && c) v Verdict.Ill
+pick_and : (a b c : Bool) (v : Option ℕ) → pick a (pick (b && c) v None) None ≡ pick ((a && b) && c) v None
 pick_and true b c v = refl
 pick_and false b c v = refl
 
@@ -171,10 +171,10 @@ check-told used s zero parent p lo hi next = refl
 check-told used s (suc k) parent p lo hi next =
     let all = kids_told s (page s p) (check_of s used k p) (sound_tree s used k p) (leaves_of s k) (leaves_some k s) (check-told used s k p) (cell_count (page s p)) lo hi next in
     let L = each_of (leaves_of s k) (children_of (page s p)) in
-    ap (λ (v : Verdict). pick (sound_inner s used parent p lo hi) v Verdict.Ill) (rw (← children-count (page s p)) at all)
-    ∙ pick_and (sound_inner s used parent p lo hi) (sound_kids (sound_tree s used k p) lo hi (keys_of (page s p)) (children_of (page s p))) (linked_to s next L) (Verdict.First (front L))
+    ap (λ (v : Option ℕ). pick (sound_inner s used parent p lo hi) v None) (rw (← children-count (page s p)) at all)
+    ∙ pick_and (sound_inner s used parent p lo hi) (sound_kids (sound_tree s used k p) lo hi (keys_of (page s p)) (children_of (page s p))) (linked_to s next L) (Some (front L))
 
-is-first : (t : Bool) (q : ℕ) → is_first (pick t (Verdict.First q) Verdict.Ill) ≡ t
+is-first : (t : Bool) (q : ℕ) → is_first (pick t (Some q) None) ≡ t
 is-first true q = refl
 is-first false q = refl
 

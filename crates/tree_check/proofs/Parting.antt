@@ -1,5 +1,6 @@
 -- The links between the leaves keep the pages of a sound tree apart: a leaf is as many links from the end as leaves stand
 -- after it, a page as many steps from its first leaf as levels are below it. Assumes nothing.
+use Rattle.std.proofs.Common.{Ok, Err}
 use mathlib.Core.Path.{◌≡◌, refl, sym, ap, ◌∙◌, subst}
 use mathlib.Core.Bool.{Bool, true, false, not, ◌&&◌, ◌||◌, or-true, false≢true}
 use mathlib.Core.List.{List, [], ◌∷◌, ◌++◌}
@@ -15,10 +16,8 @@ use Rattle.page.specs.Page.{page}
 use Rattle.page.specs.Header.{node_type, parent_of, next_leaf, cell_count}
 use Rattle.inner.specs.Inner.{key_at, child_at, keys_from, children_from, keys_of, children_of, never_falls, judge_inner}
 use Rattle.row.specs.Fault.{structural}
-use Rattle.inner.specs.declared.InnerJudged.{InnerJudged}
 use Rattle.mvcc.specs.Lists.{mem}
 use Rattle.leaf.specs.Cells.{cells, fold_cells, judge_cells, judge_leaf, on_judged}
-use Rattle.leaf.specs.declared.Judged.{Judged}
 use Rattle.tree.specs.Descend.{on_inner}
 use Rattle.tree_check.specs.Check.{within, all_within, cells_within, sound_leaf, sound_inner, sound_kids, sound_tree, each_of, leaves_of, pages_of, leaves_linked}
 use Rattle.tree.specs.Distinct.{distinct}
@@ -219,7 +218,7 @@ leaf_type used parent p lo hi s e =
   where
     by_type : (b : Bool) → eqb (node_type (page s p)) 1 ≡ b
         → on_judged (λ e. fold_cells (λ b c. b && within lo hi c.key) true (cells (page s p))) (λ f. false)
-        (pick b (judge_cells (page s p) p 0 0 (cell_count (page s p)) 12) (Judged.Bad (structural p)))
+        (pick b (judge_cells (page s p) p 0 0 (cell_count (page s p)) 12) (Err (structural p)))
         ≡ true
         → eqb (node_type (page s p)) 0 ≡ false
     by_type true t q = let n = eqb-true (node_type (page s p)) 1 t in ne_eqb (node_type (page s p)) 0 (λ z. omega arith)
@@ -235,8 +234,8 @@ inner_type used parent p lo hi s e =
     by_type : (b : Bool)
         → on_inner (λ n. all_within lo hi (keys_of (page s p))) (λ f. false)
         (pick (b && (leb 1 (cell_count (page s p)) && (leb (cell_count (page s p)) 510 && never_falls 0 (keys_of (page s p)))))
-        (InnerJudged.Ok (cell_count (page s p)))
-        (InnerJudged.Bad (structural p)))
+        (Ok (cell_count (page s p)))
+        (Err (structural p)))
         ≡ true
         → b ≡ true
     by_type true q = refl

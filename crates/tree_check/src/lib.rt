@@ -4,37 +4,13 @@
 #![tactic(auto)]
 
 ghost use Rattle.std.specs.Prelude.{◌≡◌, ◌+◌, ◌*◌, ◌≤◌, ◌<◌, length};
-ghost use Rattle.tree_check.specs.Check.{within, cells_within, sound_leaf, is_well_formed};
+ghost use Rattle.tree_check.specs.Check.{cells_within, sound_leaf, is_well_formed};
 ghost use Rattle.tree_check.specs.Steps.Check.{inner_sound, check_of};
 
-use inner::InnerJudged;
-
 // No rank is above it.
-pub const MAX_RANK: u32 = 4294967295;
+pub const MAX_RANK: u32 = u32::MAX;
 
-// The first leaf of a subtree that is as it must be.
-#[derive(Clone, Copy)]
-pub enum Verdict {
-    Ill,
-    First(u32),
-}
-
-// The number of keys of an internal page that is as it must be.
-#[derive(Clone, Copy)]
-pub enum InnerSound {
-    Ill,
-    Ok(usize),
-}
-
-fn is_within(lo: u32, hi: u32, k: u32) -> bool
-    ensures { result ≡ within lo hi k }
-{
-    if lo <= k {
-        return k <= hi;
-    }
-    false
-}
-
+// Whether page p is a leaf that is judged well, every cell's key from lo to hi.
 fn cells_within(pg: &[u8], p: u32, lo: u32, hi: u32) -> bool
     requires { length pg.now ≡ 4096 }
     ensures { result ≡ cells_within pg.now lo hi p }
@@ -42,25 +18,25 @@ fn cells_within(pg: &[u8], p: u32, lo: u32, hi: u32) -> bool
     if page::get_node_type(pg) != page::NODE_LEAF {
         return false;
     }
-    let mut left = page::get_cell_count(pg) as usize;
+    let count = page::get_cell_count(pg);
     let mut at = page::HEADER_SIZE;
     let mut k: u32 = 0;
     let mut c: u64 = 0;
-    let mut ok = true;
-    while 0 < left {
-        let end = leaf::next_end(pg, k, c, at);
-        if end == 0 {
+    for _ in 0..count {
+        let Ok(end) = leaf::next_cell(pg, p, k, c, at) else {
             return false;
-        }
+        };
         k = page::key::get_rank(pg, at);
         c = row::read::creator_at(pg, at);
-        ok = ok & is_within(lo, hi, k);
+        if k < lo || hi < k {
+            return false;
+        }
         at = end;
-        left -= 1;
     }
-    ok
+    true
 }
 
+// Whether page p is such a leaf, is in use, and has that parent.
 fn sound_leaf(pool: &[u8], used: u32, parent: u32, p: u32, lo: u32, hi: u32) -> bool
     requires { used * 4096 ≤ length pool.now }
     ensures { result ≡ sound_leaf pool.now used parent p lo hi }
@@ -69,39 +45,31 @@ fn sound_leaf(pool: &[u8], used: u32, parent: u32, p: u32, lo: u32, hi: u32) -> 
         return false;
     }
     let pg = page::pool::page_of(pool, p);
-    if page::get_parent(pg) == parent {
-        return cells_within(pg, p, lo, hi);
-    }
-    false
+    page::get_parent(pg) == parent && cells_within(pg, p, lo, hi)
 }
 
-// The keys never fall, so the first and the last tell for all.
-fn sound_inner(pool: &[u8], used: u32, parent: u32, p: u32, lo: u32, hi: u32) -> InnerSound
+// How many keys page p has, if it is an internal page in use that is judged well, has that parent, and every key of which
+// is from lo to hi. The keys never fall, so the first and the last tell for all.
+fn sound_inner(pool: &[u8], used: u32, parent: u32, p: u32, lo: u32, hi: u32) -> Option<usize>
     requires { used * 4096 ≤ length pool.now }
     ensures { result ≡ inner_sound pool.now used parent p lo hi }
 {
     if used <= p {
-        return InnerSound::Ill;
+        return None;
     }
     let pg = page::pool::page_of(pool, p);
     if page::get_parent(pg) != parent {
-        return InnerSound::Ill;
+        return None;
     }
-    match inner::judge_inner(pg, p) {
-        InnerJudged::Bad(_) => InnerSound::Ill,
-        InnerJudged::Ok(n) => {
-            if inner::key_at(pg, 0) < lo {
-                return InnerSound::Ill;
-            }
-            if hi < inner::key_at(pg, n - 1) {
-                return InnerSound::Ill;
-            }
-            InnerSound::Ok(n)
-        }
+    let n = inner::judge_inner(pg, p).ok()?;
+    if inner::key_at(pg, 0) < lo || hi < inner::key_at(pg, n - 1) {
+        return None;
     }
+    Some(n)
 }
 
-// The subtree of page p, with so many levels below it, keys from lo to hi, under its parent; its last leaf links to next.
+// The first leaf of the subtree of page p, if that has so many levels below p, keys from lo to hi, and its parent, and
+// is as it must be; its last leaf links to next.
 pub fn check_subtree(
     pool: &[u8],
     used: u32,
@@ -111,70 +79,59 @@ pub fn check_subtree(
     lo: u32,
     hi: u32,
     next: u32,
-) -> Verdict
+) -> Option<u32>
     requires { used * 4096 ≤ length pool.now }
     ensures { result ≡ check_of pool.now used below parent p lo hi next }
 {
     if below == 0 {
         return check_leaf(pool, used, parent, p, lo, hi, next);
     }
-    let InnerSound::Ok(n) = sound_inner(pool, used, parent, p, lo, hi) else {
-        return Verdict::Ill;
-    };
+    let n = sound_inner(pool, used, parent, p, lo, hi)?;
     let pg = page::pool::page_of(pool, p);
-    let mut j = n;
     let mut high = hi;
     let mut link = next;
-    while 0 < j {
-        let child = inner::child_at(pg, j);
-        j -= 1;
+    for j in (0..n).rev() {
+        let child = inner::child_at(pg, j + 1);
         let low = inner::key_at(pg, j);
-        match check_subtree(pool, used, below - 1, p, child, low, high, link) {
-            Verdict::Ill => return Verdict::Ill,
-            Verdict::First(q) => {
-                if q == 0 {
-                    return Verdict::Ill;
-                }
-                link = q;
-            }
+        link = check_subtree(pool, used, below - 1, p, child, low, high, link)?;
+        if link == 0 {
+            return None;
         }
         high = low;
     }
-    check_subtree(
-        pool,
-        used,
-        below - 1,
-        p,
-        inner::child_at(pg, 0),
-        lo,
-        high,
-        link,
-    )
+    let child = inner::child_at(pg, 0);
+    check_subtree(pool, used, below - 1, p, child, lo, high, link)
 }
 
-fn check_leaf(pool: &[u8], used: u32, parent: u32, p: u32, lo: u32, hi: u32, next: u32) -> Verdict
+// Page p itself, if it is a leaf that is as it must be and links to next.
+fn check_leaf(
+    pool: &[u8],
+    used: u32,
+    parent: u32,
+    p: u32,
+    lo: u32,
+    hi: u32,
+    next: u32,
+) -> Option<u32>
     requires { used * 4096 ≤ length pool.now }
     ensures { result ≡ check_of pool.now used 0 parent p lo hi next }
 {
-    if sound_leaf(pool, used, parent, p, lo, hi) {
-        if page::get_next_leaf(page::pool::page_of(pool, p)) == next {
-            return Verdict::First(p);
-        }
+    if sound_leaf(pool, used, parent, p, lo, hi)
+        && page::get_next_leaf(page::pool::page_of(pool, p)) == next
+    {
+        return Some(p);
     }
-    Verdict::Ill
+    None
 }
 
-// Whether the tree is well-formed. Each number of levels is tried: a wrong one fails on the way to the last
-// leaf.
+// Whether the tree is well-formed. Each number of levels is tried: a wrong one fails on the way to the last leaf.
 pub fn check_tree(pool: &[u8], used: u32, root: u32) -> bool
     requires { used * 4096 ≤ length pool.now }
     ensures { result ≡ is_well_formed pool.now used root }
 {
-    let mut below: usize = 0;
-    while below < 4 {
-        match check_subtree(pool, used, below, 0, root, 0, MAX_RANK, 0) {
-            Verdict::First(_) => return true,
-            Verdict::Ill => below += 1,
+    for below in 0..4 {
+        if check_subtree(pool, used, below, 0, root, 0, MAX_RANK, 0).is_some() {
+            return true;
         }
     }
     false

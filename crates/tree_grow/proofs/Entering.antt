@@ -11,7 +11,6 @@ use lib.Seq.{drop-cons}
 use Rattle.store.specs.Part.{part, zeros}
 use Rattle.page.specs.Page.{page, set_page}
 use Rattle.page.specs.Header.{cell_count}
-use Rattle.page.specs.Key.{rank_at}
 use Rattle.page.specs.Pool.{next_page, allocated, with_fresh, Grown, grown}
 use Rattle.page.specs.declared.pool.State.{State}
 use Rattle.page.specs.declared.pool.Allocated.{Allocated}
@@ -21,9 +20,9 @@ use Rattle.inner_edit.specs.Edit.{with_entry, left_half, middle_key, right_half,
 use Rattle.inner_edit.specs.Steps.Edit.{AdoptSafe}
 use Rattle.tree.specs.declared.climb.Path.{Path}
 use Rattle.tree_grow.specs.Path.{page_at, pages_above}
-use Rattle.tree_grow.specs.Grow.{linked, linked_both, top_over, place_in, joined_to, halved, enter_of, kept_root, settled}
+use Rattle.tree_grow.specs.Grow.{linked, linked_both, top_over, place_in, joined_to, halved, enter_of}
 use Rattle.tree_grow.specs.Steps.Grow.{divide_of}
-use Rattle.tree_grow.specs.Steps.Safe.{There, Free, HalvedSafe, EnterSafe, DivideSafe, PinSafe, AboveSafe}
+use Rattle.tree_grow.specs.Steps.Safe.{There, Free, HalvedSafe, EnterSafe, DivideSafe}
 use Rattle.store.proofs.PutLaws.{part_none}
 use Rattle.page.proofs.PageLaws.{lent_page, back_page, page-set_page-other}
 use Rattle.page.proofs.PoolLaws.{alloc_page}
@@ -135,21 +134,3 @@ module _ (ps qs : List ℕ) (p old sep new : ℕ) (s : List ℕ) (st : State) (m
           let k = rw more at h in
           let c : cell_count (page s p) ≡ n = rw (← of, ← count) in
           rw (e, at_place p old s of count place) (k.5 (omega arith))
-
--- ---- the leaf p has divided, and page q is its right side
-
-module _ (ps : List ℕ) (p q : ℕ) (s : List ℕ) (st : State) {pg : List ℕ} {sep : ℕ} (of : pg ≡ page s q) (key : sep ≡ rank_at pg 12) where
-  module _ (safe : AboveSafe st.root p (rank_at (page s q) 12) q ps (grown s st)) where
-    pub settle-enters : EnterSafe ps p sep q (grown s st)
-    settle-enters = rw (key, of) safe.enters
-
-    pub settle-keeps : {t : List ℕ} {after : State} → grown t after ≡ enter_of ps p sep q (grown s st)
-        → (st.root ≡ 0 → ⊥) → (after.root ≡ st.root → ⊥) → PinSafe st.root (grown t after)
-    settle-keeps e some moved =
-        let f = rw (key, of) at e in
-        rw f (safe.keeps some (λ h. moved (ap (λ (x : Grown). x.state.root) f ∙ h)))
-
-  pub settle-done : {t u : List ℕ} {after r : State} → grown t after ≡ enter_of ps p sep q (grown s st) → grown u r ≡ kept_root st.root (grown t after)
-      → grown u r ≡ settled ps p q (grown s st)
-  unfolding settled
-  settle-done e k = k ∙ rw (e, key, of)

@@ -1,5 +1,7 @@
 -- The theorems of specs/PlanFacts.antt: a climb finds pages that stand one above another, and where the plan finds the
 -- children in use and the pages asked for are left, every store above the division is inside the pool. Assumes nothing.
+use Rattle.std.proofs.Common.{Result, Ok, Err}
+use Rattle.row.specs.declared.Fault.{Fault}
 use mathlib.Core.Path.{◌≡◌, refl, sym, ◌∙◌, subst}
 use mathlib.Core.Bool.{Bool, true, false, ◌||◌}
 use mathlib.Core.List.{List, [], ◌∷◌, ◌++◌}
@@ -22,8 +24,6 @@ use Rattle.tree_grow.specs.Grow.{linked, place_in, top_over, joined_to, halved, 
 use Rattle.tree_grow.specs.Steps.Safe.{Free, HalvedSafe, EnterSafe, PinSafe, Stands}
 use Rattle.tree_grow.specs.Plan.{full_pages, division_of, pages_asked, first_moved, relinks_in, keeps_number, relinks, in_use, on_links, plan_of}
 use Rattle.tree_grow.specs.Steps.PlanFacts.{ClimbStands, Room, PlanIsSafe}
-use Rattle.tree_grow.specs.declared.plan.Links.{Links}
-use Rattle.tree_grow.specs.declared.plan.Plan.{Plan}
 use Rattle.store.proofs.PartLaws.{le_or_lt}
 use Rattle.page.proofs.PageLaws.{length-page}
 use Rattle.tree.proofs.Climbing.{Rises, climb_risen, path_is}
@@ -83,7 +83,7 @@ module _ (used : ℕ) (s : List ℕ) where
 
   stands_in : (x old : ℕ) (ps : List ℕ) → Stands used old ps s → mem x ps ≡ true → x < used
   unfolding Stands mem
-  stands_in x old [] h e = absurd (let z : ◌≡◌ {A = ℕ} 0 1 = cc in omega arith)
+  stands_in x old [] h e = absurd (cc)
   stands_in x old (p ∷ ps) h e = by_test (stands_in x p ps h.4) (eqb p x) refl e
     where
       by_test : (mem x ps ≡ true → x < used) → (b : Bool) → eqb p x ≡ b → (b || mem x ps) ≡ true → x < used
@@ -92,8 +92,8 @@ module _ (used : ℕ) (s : List ℕ) where
 
   stands_apart : (x old : ℕ) (ps : List ℕ) → Stands used old ps s → mem x ps ≡ true → x ≡ old → ⊥
   unfolding Stands mem
-  stands_apart x old [] h e q = let z : ◌≡◌ {A = ℕ} 0 1 = cc in omega arith
-  stands_apart x old (p ∷ ps) h e q = let n = h.1 in let z : ◌≡◌ {A = ℕ} 0 1 = cc in omega arith
+  stands_apart x old [] h e q = cc
+  stands_apart x old (p ∷ ps) h e q = let n = h.1 in cc
 
 module _ (used root p : ℕ) (s ps : List ℕ) (e : climb_of s used root p 3 ≡ up (p ∷ ps)) where
   risen : Rises used root p s ps
@@ -104,15 +104,15 @@ climb_stands used root p s ps h e = rises_stand used root s p ps h (risen used r
 
 -- ---- what the plan says
 
-in_use_cons : (used c : ℕ) (cs : List ℕ) → in_use used (c ∷ cs) ≡ Links.InUse → (c < used) × (in_use used cs ≡ Links.InUse)
+in_use_cons : (used c : ℕ) (cs : List ℕ) → in_use used (c ∷ cs) ≡ Ok tt → (c < used) × (in_use used cs ≡ Ok tt)
 unfolding in_use
 in_use_cons used c cs e = by_test (ltb c used) refl e
   where
-    by_test : (b : Bool) → ltb c used ≡ b → pick b (in_use used cs) (Links.Bad (structural c)) ≡ Links.InUse → (c < used) × (in_use used cs ≡ Links.InUse)
+    by_test : (b : Bool) → ltb c used ≡ b → pick b (in_use used cs) (Err (structural c)) ≡ Ok tt → (c < used) × (in_use used cs ≡ Ok tt)
     by_test true q u = (ltb-true c used q, u)
-    by_test false q u = absurd (let z : ◌≡◌ {A = ℕ} 0 1 = cc in omega arith)
+    by_test false q u = absurd (cc)
 
-in_use_both : (used : ℕ) (xs ys : List ℕ) → in_use used (xs ++ ys) ≡ Links.InUse → (in_use used xs ≡ Links.InUse) × (in_use used ys ≡ Links.InUse)
+in_use_both : (used : ℕ) (xs ys : List ℕ) → in_use used (xs ++ ys) ≡ Ok tt → (in_use used xs ≡ Ok tt) × (in_use used ys ≡ Ok tt)
 unfolding in_use
 in_use_both used [] ys e = (refl, e)
 in_use_both used (x ∷ xs) ys e =
@@ -120,7 +120,7 @@ in_use_both used (x ∷ xs) ys e =
     let k = in_use_both used xs ys h.1 in
     (rw (lt-ltb x used h.0) k.0, k.1)
 
-in_use_child : (used n i : ℕ) (pg : List ℕ) → in_use used (children_from pg i n) ≡ Links.InUse → (k : ℕ) → i ≤ k → k < i + n → child_at pg k < used
+in_use_child : (used n i : ℕ) (pg : List ℕ) → in_use used (children_from pg i n) ≡ Ok tt → (k : ℕ) → i ≤ k → k < i + n → child_at pg k < used
 unfolding children_from
 in_use_child used zero i pg e k h l = absurd (omega arith)
 in_use_child used (suc n) i pg e k h l =
@@ -130,13 +130,13 @@ in_use_child used (suc n) i pg e k h l =
     (λ (a : i < k). in_use_child used n (i + 1) pg c.1 k (omega arith) (omega arith))
     (le_or_lt k i)
 
-plan_links : (used old : ℕ) (ps s : List ℕ) → plan_of s used old ps ≡ Plan.Ok (division_of ps s) → in_use used (relinks s old ps) ≡ Links.InUse
+plan_links : (used old : ℕ) (ps s : List ℕ) → plan_of s used old ps ≡ Ok (division_of ps s) → in_use used (relinks s old ps) ≡ Ok tt
 unfolding plan_of
 plan_links used old ps s e = by_links (in_use used (relinks s old ps)) e
   where
-    by_links : (l : Links) → on_links (Plan.Ok (division_of ps s)) (λ f. Plan.Bad f) l ≡ Plan.Ok (division_of ps s) → l ≡ Links.InUse
-    by_links Links.InUse u = refl
-    by_links (Links.Bad f) u = absurd (let z : ◌≡◌ {A = ℕ} 0 1 = cc in omega arith)
+    by_links : (l : Result Unit Fault) → on_links (Ok (division_of ps s)) (λ f. Err f) l ≡ Ok (division_of ps s) → l ≡ Ok tt
+    by_links (Ok _) u = refl
+    by_links (Err f) u = absurd (cc)
 
 -- a page for the top, and one more for a root other than 0
 asked_top : (root : ℕ) (s : List ℕ) → pages_asked root (division_of [] s) ≡ pick (eqb root 0) 1 2
@@ -162,7 +162,7 @@ module _ (old p : ℕ) (ps s : List ℕ) (full : cell_count (page s p) ≡ 510) 
   unfolding relinks
   relinks-step = rw (eq-eqb (cell_count (page s p)) 510 full)
 
-module _ (used i : ℕ) (pg : List ℕ) (b : Bool) (links : in_use used (relinks_in pg i b) ≡ Links.InUse) where
+module _ (used i : ℕ) (pg : List ℕ) (b : Bool) (links : in_use used (relinks_in pg i b) ≡ Ok tt) where
   moved-used : (k : ℕ) → first_moved i ≤ k → k < 511 → child_at pg k < used
   unfolding relinks_in
   moved-used k h l =
@@ -181,7 +181,7 @@ module _ (used i : ℕ) (pg : List ℕ) (b : Bool) (links : in_use used (relinks
 record Stage (s : List ℕ) (used root old : ℕ) (ps : List ℕ) (new : ℕ) (g : Grown) : Type 0 where
   stands : Stands used old ps s
   alike : (x : ℕ) → mem x ps ≡ true → Alike (page g.pool x) (page s x)
-  links : in_use used (relinks s old ps) ≡ Links.InUse
+  links : in_use used (relinks s old ps) ≡ Ok tt
   ends : Ends root old ps
   later : used ≤ new
   fresh : new < g.state.used
@@ -212,7 +212,7 @@ module _ (s : List ℕ) (used root : ℕ) where
     unfolding Stands
     place = rw (alike_place old here) (omega (arith, st.stands.3, full_before))
 
-    links_here : (in_use used (relinks_in (page s p) (place_in (page s p) old) (keeps_number p ps)) ≡ Links.InUse) × (in_use used (relinks s p ps) ≡ Links.InUse)
+    links_here : (in_use used (relinks_in (page s p) (place_in (page s p) old) (keeps_number p ps)) ≡ Ok tt) × (in_use used (relinks s p ps) ≡ Ok tt)
     links_here =
         in_use_both used (relinks_in (page s p) (place_in (page s p) old) (keeps_number p ps)) (relinks s p ps) (rw (relinks-step old p ps s full_before) at st.links)
 

@@ -1,5 +1,6 @@
 -- The plan: the ways out of each of its functions, the worker that takes the pages above one by one, and that it says what
 -- `plan_of` says. Assumes nothing.
+use Rattle.std.proofs.Common.{Result, Ok, Err}
 use mathlib.Core.Path.{◌≡◌, refl, sym, ap, ◌∙◌}
 use mathlib.Core.Bool.{Bool, true, false, not, ◌&&◌}
 use mathlib.Core.List.{List, [], ◌∷◌, ◌++◌}
@@ -10,7 +11,7 @@ use native.Mathlib.Nat.{zero-add, add-zero}
 use lib.Dec.{ltb, eqb, eqb-zero-suc, eqb-suc-suc}
 use lib.ListN.{length}
 use lib.Seq.{drop-cons}
-use borrow.Author.Tests.{lt-ltb, le-ltb, eq-eqb, ne_eqb, not-true, not-false}
+use borrow.Author.Tests.{lt-ltb, le-ltb, eq-eqb, ne_eqb}
 use Rattle.store.specs.Pick.{pick}
 use Rattle.store.specs.Part.{part}
 use Rattle.page.specs.Page.{page}
@@ -23,35 +24,12 @@ use Rattle.tree.specs.declared.climb.Path.{Path}
 use Rattle.tree_grow.specs.Path.{page_at, pages_above}
 use Rattle.tree_grow.specs.Grow.{place_in}
 use Rattle.tree_grow.specs.Steps.Safe.{Stands}
-use Rattle.tree_grow.specs.Plan.{full_pages, division_of, pages_asked, first_moved, relinks_in, keeps_number, relinks, in_use, on_links, plan_of}
+use Rattle.tree_grow.specs.Plan.{full_pages, division_of, first_moved, relinks_in, keeps_number, relinks, in_use, on_links, plan_of}
 use Rattle.tree_grow.specs.declared.plan.Division.{Division}
-use Rattle.tree_grow.specs.declared.plan.Links.{Links}
-use Rattle.tree_grow.specs.declared.plan.Plan.{Plan}
 use Rattle.store.proofs.PartLaws.{le_or_lt}
 use Rattle.store.proofs.PutLaws.{part_none}
 
--- ---- the pages that are asked for
-
-module _ (root : ℕ) (d : Division) where
-  pub asked_none : not d.grows ≡ true → d.full ≡ pages_asked root d
-  unfolding pages_asked
-  asked_none h = rw (not-true d.grows h) (omega arith)
-
-  pub asked_top : not d.grows ≡ false → root ≡ 0 → d.full + 1 ≡ pages_asked root d
-  unfolding pages_asked
-  asked_top h e = rw (not-false d.grows h, eq-eqb root 0 e)
-
-  pub asked_pinned : not d.grows ≡ false → (root ≡ 0 → ⊥) → d.full + 2 ≡ pages_asked root d
-  unfolding pages_asked
-  asked_pinned h e = rw (not-false d.grows h, ne_eqb root 0 e)
-
 -- ---- the children that move
-
-pub first-low : (i : ℕ) → i < 255 → 255 ≡ first_moved i
-first-low i h = rw (lt-ltb i 255 h)
-
-pub first_high : (i : ℕ) → 255 ≤ i → 256 ≡ first_moved i
-first_high i h = rw (le-ltb i 255 h)
 
 pub first-few : (i : ℕ) {k : ℕ} → k ≡ first_moved i → k ≤ 511
 first-few i e = rw e (by_place (ltb i 255))
@@ -63,7 +41,7 @@ first-few i e = rw e (by_place (ltb i 255))
 -- ---- children in use: a turn of the loop, and its ways out
 
 module _ (used i n m : ℕ) (pg : List ℕ) {c : ℕ} (e : n ≡ suc m) (is : c ≡ child_at pg i) where
-  pub use_bad : {f : Fault} → used ≤ c → f ≡ structural c → Links.Bad f ≡ in_use used (children_from pg i n)
+  pub use_bad : {f : Fault} → used ≤ c → f ≡ structural c → Err f ≡ in_use used (children_from pg i n)
   unfolding in_use children_from
   use_bad h u = rw (e, ← is, le-ltb c used h, u)
 
@@ -71,33 +49,33 @@ module _ (used i n m : ℕ) (pg : List ℕ) {c : ℕ} (e : n ≡ suc m) (is : c 
   unfolding in_use children_from
   use_turn h = rw (e, ← is, lt-ltb c used h)
 
-pub use_end : (used i n : ℕ) (pg : List ℕ) → n ≤ 0 → Links.InUse ≡ in_use used (children_from pg i n)
+pub use_end : (used i n : ℕ) (pg : List ℕ) → n ≤ 0 → Ok tt ≡ in_use used (children_from pg i n)
 unfolding in_use children_from
 use_end used i zero pg h = refl
 use_end used i (suc n) pg h = absurd (omega arith)
 
 -- ---- of two lists
 
-use_append : (used : ℕ) (xs ys : List ℕ) → in_use used (xs ++ ys) ≡ on_links (in_use used ys) (λ f. Links.Bad f) (in_use used xs)
+use_append : (used : ℕ) (xs ys : List ℕ) → in_use used (xs ++ ys) ≡ on_links (in_use used ys) (λ f. Err f) (in_use used xs)
 unfolding in_use
 use_append used [] ys = refl
 use_append used (x ∷ xs) ys = by_use (use_append used xs ys) (ltb x used)
   where
-    by_use : in_use used (xs ++ ys) ≡ on_links (in_use used ys) (λ f. Links.Bad f) (in_use used xs) → (b : Bool)
-        → pick b (in_use used (xs ++ ys)) (Links.Bad (structural x)) ≡ on_links (in_use used ys) (λ f. Links.Bad f) (pick b (in_use used xs) (Links.Bad (structural x)))
+    by_use : in_use used (xs ++ ys) ≡ on_links (in_use used ys) (λ f. Err f) (in_use used xs) → (b : Bool)
+        → pick b (in_use used (xs ++ ys)) (Err (structural x)) ≡ on_links (in_use used ys) (λ f. Err f) (pick b (in_use used xs) (Err (structural x)))
     by_use e true = e
     by_use e false = refl
 
-module _ (used i : ℕ) (relocated : Bool) (pg : List ℕ) {k : ℕ} {r : Links} (first : k ≡ first_moved i) (moved : r ≡ in_use used (children_from pg k (511 - k))) where
-  pub in_bad : {f : Fault} → r ≡ Links.Bad f → Links.Bad f ≡ in_use used (relinks_in pg i relocated)
+module _ (used i : ℕ) (relocated : Bool) (pg : List ℕ) {k : ℕ} {r : Result Unit Fault} (first : k ≡ first_moved i) (moved : r ≡ in_use used (children_from pg k (511 - k))) where
+  pub in_bad : {f : Fault} → r ≡ Err f → Err f ≡ in_use used (relinks_in pg i relocated)
   unfolding relinks_in
   in_bad e = sym (use_append used (children_from pg (first_moved i) (511 - first_moved i)) _ ∙ rw (← first, sym moved ∙ e))
 
-  pub in_all : {q : Links} → r ≡ Links.InUse → relocated ≡ true → q ≡ in_use used (children_from pg 0 k) → q ≡ in_use used (relinks_in pg i relocated)
+  pub in_all : {q : Result Unit Fault} → r ≡ Ok tt → relocated ≡ true → q ≡ in_use used (children_from pg 0 k) → q ≡ in_use used (relinks_in pg i relocated)
   unfolding relinks_in
   in_all e h f = sym (use_append used (children_from pg (first_moved i) (511 - first_moved i)) _ ∙ rw (← first, sym moved ∙ e, h, ← f))
 
-  pub in_moved : r ≡ Links.InUse → relocated ≡ false → Links.InUse ≡ in_use used (relinks_in pg i relocated)
+  pub in_moved : r ≡ Ok tt → relocated ≡ false → Ok tt ≡ in_use used (relinks_in pg i relocated)
   unfolding relinks_in in_use
   in_moved e h = sym (use_append used (children_from pg (first_moved i) (511 - first_moved i)) _ ∙ rw (← first, sym moved ∙ e, h))
 
@@ -157,59 +135,67 @@ next-is used path level s four few more h =
     by_top p (inl t) = rw (eq-eqb (level + 2) path.len (omega arith), above_none path (level + 1) (omega arith))
     by_top p (inr t) = rw (ne_eqb (level + 2) path.len (λ e. omega arith), above_next path (level + 1) four few (omega arith))
 
+-- whether it is a root that keeps its number, as it was tested
+module _ (level : ℕ) (path : Path) (p : ℕ) {b : Bool} where
+  pub kept_top : level + 2 ≡ path.len → b ≡ not (eqb p 0) → b ≡ (eqb (level + 2) path.len && not (eqb p 0))
+  kept_top t e = e ∙ rw (eq-eqb (level + 2) path.len t)
+
+  pub kept_below : (level + 2 ≡ path.len → ⊥) → b ≡ eqb (level + 2) path.len → b ≡ (eqb (level + 2) path.len && not (eqb p 0))
+  kept_below t e = e ∙ rw (ne_eqb (level + 2) path.len t)
+
 -- ---- the plan that takes the pages one by one, full of them so far
 
-unfoldable pub plan_from : (full used old : ℕ) → List ℕ → List ℕ → Plan
-plan_from full used old [] s = Plan.Ok (record { full = full; grows = true })
+unfoldable pub plan_from : (full used old : ℕ) → List ℕ → List ℕ → Result Division Fault
+plan_from full used old [] s = Ok (record { full = full; grows = true })
 plan_from full used old (p ∷ ps) s =
     pick (eqb (cell_count (page s p)) 510)
-    (on_links (plan_from (full + 1) used p ps s) (λ f. Plan.Bad f) (in_use used (relinks_in (page s p) (place_in (page s p) old) (keeps_number p ps))))
-    (Plan.Ok (record { full = full; grows = false }))
+    (on_links (plan_from (full + 1) used p ps s) (λ f. Err f) (in_use used (relinks_in (page s p) (place_in (page s p) old) (keeps_number p ps))))
+    (Ok (record { full = full; grows = false }))
 
 module _ (full used old : ℕ) (s : List ℕ) {p n : ℕ} {ps qs pg : List ℕ} (up : ps ≡ p ∷ qs) (here : pg ≡ page s p) (count : n ≡ cell_count pg) where
-  pub plan_room : n < 510 → Plan.Ok (record { full = full; grows = false }) ≡ plan_from full used old ps s
+  pub plan_room : n < 510 → Ok (record { full = full; grows = false }) ≡ plan_from full used old ps s
   unfolding plan_from
   plan_room h = rw (up, ← here, ← count, ne_eqb n 510 (λ e. omega arith))
 
-  module _ {i : ℕ} {b : Bool} {r : Links} (few : cell_count (page s p) ≤ 510) (many : 510 ≤ n) (place : i ≡ child_place old (children_from pg 0 511)) (keeps : b ≡ keeps_number p qs) (judged : r ≡ in_use used (relinks_in pg i b)) where
+  module _ {i : ℕ} {b : Bool} {r : Result Unit Fault} (few : cell_count (page s p) ≤ 510) (many : 510 ≤ n) (place : i ≡ child_place old (children_from pg 0 511)) (keeps : b ≡ keeps_number p qs) (judged : r ≡ in_use used (relinks_in pg i b)) where
     all : n ≡ 510
     all = let e : n ≡ cell_count (page s p) = count ∙ ap cell_count here in omega arith
 
     same : in_use used (relinks_in pg (place_in pg old) (keeps_number p qs)) ≡ r
     same = rw (← count, all, ← place, ← keeps, ← judged)
 
-    pub plan_bad : {f : Fault} → r ≡ Links.Bad f → Plan.Bad f ≡ plan_from full used old ps s
+    pub plan_bad : {f : Fault} → r ≡ Err f → Err f ≡ plan_from full used old ps s
     unfolding plan_from
     plan_bad e = rw (up, ← here, same ∙ e, ← count, eq-eqb n 510 all)
 
-    pub plan_on : r ≡ Links.InUse → plan_from (full + 1) used p qs s ≡ plan_from full used old ps s
+    pub plan_on : r ≡ Ok tt → plan_from (full + 1) used p qs s ≡ plan_from full used old ps s
     unfolding plan_from
     plan_on e = rw (up, ← here, same ∙ e, ← count, eq-eqb n 510 all)
 
-pub plan_end : (full used old : ℕ) (ps s : List ℕ) → ps ≡ [] → Plan.Ok (record { full = full; grows = true }) ≡ plan_from full used old ps s
+pub plan_end : (full used old : ℕ) (ps s : List ℕ) → ps ≡ [] → Ok (record { full = full; grows = true }) ≡ plan_from full used old ps s
 unfolding plan_from
 plan_end full used old ps s e = rw e
 
 -- ---- and the plan of the definition
 
-use_pick : (used : ℕ) (b : Bool) (xs ys : List ℕ) → in_use used (pick b (xs ++ ys) []) ≡ pick b (on_links (in_use used ys) (λ f. Links.Bad f) (in_use used xs)) Links.InUse
+use_pick : (used : ℕ) (b : Bool) (xs ys : List ℕ) → in_use used (pick b (xs ++ ys) []) ≡ pick b (on_links (in_use used ys) (λ f. Err f) (in_use used xs)) (Ok tt)
 unfolding in_use
 use_pick used true xs ys = use_append used xs ys
 use_pick used false xs ys = refl
 
 -- one page more: b says that it divides, r what its children are, l what those of the pages above are
-one_more : (full k n : ℕ) (b : Bool) (r l : Links)
-    → pick b (on_links (on_links (Plan.Ok (record { full = full + 1 + k; grows = eqb k n })) (λ f. Plan.Bad f) l) (λ f. Plan.Bad f) r) (Plan.Ok (record { full = full; grows = false }))
-    ≡ on_links (Plan.Ok (record { full = full + pick b (suc k) 0; grows = eqb (pick b (suc k) 0) (suc n) })) (λ f. Plan.Bad f) (pick b (on_links l (λ f. Links.Bad f) r) Links.InUse)
-one_more full k n true Links.InUse l =
+one_more : (full k n : ℕ) (b : Bool) (r l : Result Unit Fault)
+    → pick b (on_links (on_links {A = Result Division Fault} (Ok (record { full = full + 1 + k; grows = eqb k n })) (λ f. Err f) l) (λ f. Err f) r) (Ok (record { full = full; grows = false }))
+    ≡ on_links {A = Result Division Fault} (Ok (record { full = full + pick b (suc k) 0; grows = eqb (pick b (suc k) 0) (suc n) })) (λ f. Err f) (pick b (on_links l (λ f. Err f) r) (Ok tt))
+one_more full k n true (Ok _) l =
     let e : full + 1 + k ≡ full + suc k = omega arith in
     rw (e, eqb-suc-suc k n)
-one_more full k n true (Links.Bad f) l = refl
+one_more full k n true (Err f) l = refl
 one_more full k n false r l = rw (eqb-zero-suc n, add-zero full)
 
 from_is : (full used old : ℕ) (ps s : List ℕ)
     → plan_from full used old ps s
-    ≡ on_links (Plan.Ok (record { full = full + full_pages ps s; grows = eqb (full_pages ps s) (length ps) })) (λ f. Plan.Bad f) (in_use used (relinks s old ps))
+    ≡ on_links (Ok (record { full = full + full_pages ps s; grows = eqb (full_pages ps s) (length ps) })) (λ f. Err f) (in_use used (relinks s old ps))
 unfolding plan_from full_pages relinks in_use
 from_is full used old [] s = rw (add-zero full)
 from_is full used old (p ∷ ps) s =

@@ -1,7 +1,7 @@
 -- What a division of a leaf leads to above it, told on the unchanged pool (document 01, sections 3, 5 and 6): which pages
 -- divide, how many pages are needed, and "every child whose parent link the call would write". The pages above the leaf,
 -- ps, come from the climb, the nearest first.
-use Rattle.std.specs.Prelude.{Bool, not, false, List, [], ◌∷◌, ◌++◌, ℕ, suc, ◌+◌, ◌-◌, ltb, eqb, length}
+use Rattle.std.specs.Prelude.{Result, Ok, Err, Bool, not, false, List, [], ◌∷◌, ◌++◌, ℕ, suc, ◌+◌, ◌-◌, ltb, eqb, length}
 use Rattle.store.specs.Pick.{pick}
 use Rattle.page.specs.Page.{page}
 use Rattle.page.specs.Header.{cell_count}
@@ -10,8 +10,6 @@ use Rattle.inner.specs.Inner.{children_from, max_keys}
 use Rattle.row.specs.Fault.{structural}
 use Rattle.tree_grow.specs.Grow.{place_in}
 use Rattle.tree_grow.specs.declared.plan.Division.{Division}
-use Rattle.tree_grow.specs.declared.plan.Links.{Links}
-use Rattle.tree_grow.specs.declared.plan.Plan.{Plan}
 use Rattle.inner_edit.specs.Edit.{kept_keys}
 
 -- the pages that divide: those with 510 keys, from the nearest on
@@ -47,14 +45,14 @@ relinks s old [] = []
 relinks s old (p ∷ ps) = pick (eqb (cell_count (page s p)) max_keys) (relinks_in (page s p) (place_in (page s p) old) (keeps_number p ps) ++ relinks s p ps) []
 
 -- "must be a page in use": all are, or the first that is not
-unfoldable pub in_use : (used : ℕ) → List ℕ → Links
-in_use used [] = Links.InUse
-in_use used (c ∷ cs) = pick (ltb c used) (in_use used cs) (Links.Bad (structural c))
+unfoldable pub in_use : (used : ℕ) → List ℕ → Result Unit Fault
+in_use used [] = Ok tt
+in_use used (c ∷ cs) = pick (ltb c used) (in_use used cs) (Err (structural c))
 
-abbrev pub on_links : {A : Type 0} → A → (Fault → A) → Links → A
-on_links good ill Links.InUse = good
-on_links good ill (Links.Bad f) = ill f
+abbrev pub on_links : {A : Type 0} → A → (Fault → A) → Result Unit Fault → A
+on_links good ill (Ok _) = good
+on_links good ill (Err f) = ill f
 
 -- what the division of the page old leads to, or the fault
-unfoldable pub plan_of : List ℕ → (used old : ℕ) → List ℕ → Plan
-plan_of s used old ps = on_links (Plan.Ok (division_of ps s)) (λ f. Plan.Bad f) (in_use used (relinks s old ps))
+unfoldable pub plan_of : List ℕ → (used old : ℕ) → List ℕ → Result Division Fault
+plan_of s used old ps = on_links (Ok (division_of ps s)) (λ f. Err f) (in_use used (relinks s old ps))

@@ -19,6 +19,7 @@ use page::PAGE_SIZE;
 use page::pool::State;
 use tree::climb::Path;
 
+// Both sides of a division get the parent q.
 fn link_both(pool: &mut [u8], old: u32, new: u32, q: u32)
     requires { There old pool.old × There new pool.old }
     ensures { pool.new ≡ linked_both old new q pool.old }
@@ -27,20 +28,18 @@ fn link_both(pool: &mut [u8], old: u32, new: u32, q: u32)
     inner_edit::adopt_one(pool, new, q);
 }
 
+// The root has divided: a new top over its two sides is the root.
 fn grow_top(pool: &mut [u8], st: State, old: u32, sep: u32, new: u32) -> State
     requires { There old pool.old × There new pool.old × Free (grown pool.old st) }
     ensures { grown pool.new result ≡ top_over old sep new (grown pool.old st) }
 {
-    let a = page::pool::allocate(pool, st);
-    let t = a.page;
-    let after = a.state;
-    let b = t as usize * PAGE_SIZE;
-    let e = b + PAGE_SIZE;
-    inner_edit::write_top(&mut pool[b..e], old, sep, new);
-    link_both(pool, old, new, t);
+    let fresh = page::pool::allocate(pool, st);
+    let start = fresh.page as usize * PAGE_SIZE;
+    inner_edit::write_top(&mut pool[start..start + PAGE_SIZE], old, sep, new);
+    link_both(pool, old, new, fresh.page);
     State {
-        root: t,
-        used: after.used,
+        root: fresh.page,
+        ..fresh.state
     }
 }
 
@@ -49,9 +48,8 @@ fn join(pool: &mut [u8], p: u32, i: usize, n: usize, old: u32, sep: u32, new: u3
     requires { There p pool.old × There old pool.old × There new pool.old × (n ≡ cell_count (page pool.old p)) × (i ≤ n) × (n < 510) }
     ensures { pool.new ≡ linked_both old new p (set_page p (with_entry i sep new (page pool.old p)) pool.old) }
 {
-    let b = p as usize * PAGE_SIZE;
-    let e = b + PAGE_SIZE;
-    inner_edit::enter(&mut pool[b..e], i, n, sep, new);
+    let start = p as usize * PAGE_SIZE;
+    inner_edit::enter(&mut pool[start..start + PAGE_SIZE], i, n, sep, new);
     link_both(pool, old, new, p);
 }
 
@@ -99,27 +97,27 @@ fn split_internal(
     ensures { grown pool.new result ≡ divide_of (pages_above path at) (page_at path at) i sep new (grown pool.old st) }
 {
     let p = path.pages[at];
-    let a = page::pool::allocate(pool, st);
-    let q = a.page;
-    let after = a.state;
+    let fresh = page::pool::allocate(pool, st);
+    let q = fresh.page;
     let middle = inner_edit::divide(pool, p, q, i, sep, new);
     inner_edit::adopt(pool, inner_edit::KEPT_CHILDREN, 0, q, q);
-    insert_in_parent(pool, after, path, at, middle, q)
+    insert_in_parent(pool, fresh.state, path, at, middle, q)
 }
 
+// The image of page `fixed` in page z, which is no root and has `fixed` as its parent.
 fn move_page(pool: &mut [u8], fixed: u32, z: u32)
     requires { (fixed < z) × There z pool.old }
     ensures { pool.new ≡ moved_to fixed z pool.old }
 {
-    let a = fixed as usize * PAGE_SIZE;
-    let b = z as usize * PAGE_SIZE;
-    store::run::shift(pool, a, b, PAGE_SIZE);
-    let e = b + PAGE_SIZE;
-    let pg = &mut pool[b..e];
+    let start = z as usize * PAGE_SIZE;
+    store::run::shift(pool, fixed as usize * PAGE_SIZE, start, PAGE_SIZE);
+    let pg = &mut pool[start..start + PAGE_SIZE];
     page::set_is_root(pg, 0);
     page::set_parent(pg, fixed);
 }
 
+// The children of page z get it as their parent.
+#[tactic(auto, unfolding(crate::specs::Grow::relinked))]
 fn relink(pool: &mut [u8], z: u32)
     requires { There z pool.old × RelinkSafe z pool.old }
     ensures { pool.new ≡ relinked z pool.old }
@@ -131,13 +129,13 @@ fn relink(pool: &mut [u8], z: u32)
     }
 }
 
+// The new top in the place of the old root, in a page cleared behind its header.
 fn write_root(pool: &mut [u8], fixed: u32, left: u32, sep: u32, right: u32)
     requires { There fixed pool.old }
     ensures { pool.new ≡ set_page fixed (top_in left sep right (page pool.old fixed)) pool.old }
 {
-    let a = fixed as usize * PAGE_SIZE;
-    let e = a + PAGE_SIZE;
-    let pg = &mut pool[a..e];
+    let start = fixed as usize * PAGE_SIZE;
+    let pg = &mut pool[start..start + PAGE_SIZE];
     store::run::zero_fill(pg, page::HEADER_SIZE, PAGE_SIZE);
     page::set_node_type(pg, page::NODE_INTERNAL);
     page::set_parent(pg, 0);
@@ -152,33 +150,32 @@ fn pin_root(pool: &mut [u8], st: State, fixed: u32) -> State
     let top = page::pool::page_of(pool, st.root);
     let sep = inner::key_at(top, 0);
     let right = inner::child_at(top, 1);
-    let a = page::pool::allocate(pool, st);
-    let z = a.page;
-    let after = a.state;
+    let fresh = page::pool::allocate(pool, st);
+    let z = fresh.page;
     move_page(pool, fixed, z);
     relink(pool, z);
     write_root(pool, fixed, z, sep, right);
     link_both(pool, z, right, fixed);
     State {
         root: fixed,
-        used: after.used,
+        ..fresh.state
     }
 }
 
+// A root other than 0 that was divided keeps its number.
+#[tactic(auto, unfolding(crate::specs::Grow::kept_root))]
 fn keep_root(pool: &mut [u8], st: State, original: u32) -> State
     requires { (original ≡ 0 → ⊥) → (st.root ≡ original → ⊥) → PinSafe original (grown pool.old st) }
     ensures { grown pool.new result ≡ kept_root original (grown pool.old st) }
 {
-    if original == 0 {
-        return st;
-    }
-    if st.root == original {
+    if original == 0 || st.root == original {
         return st;
     }
     pin_root(pool, st, original)
 }
 
 // The leaf at the path's start has divided, and page q is its right side, whose first key goes up.
+#[tactic(auto, unfolding(crate::specs::Grow::settled))]
 pub fn settle(pool: &mut [u8], st: State, path: Path, q: u32) -> State
     requires len_nonzero { (0 < path.len) × (path.len ≤ 4) × There q pool.old }
     requires above_safe { AboveSafe st.root (page_at path 0) (rank_at (page pool.old q) 12) q (pages_above path 0) (grown pool.old st) }

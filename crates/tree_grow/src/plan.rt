@@ -17,21 +17,8 @@ pub struct Division {
     pub grows: bool,
 }
 
-// Every child is in use; or the fault of one that is not.
-#[derive(Clone, Copy)]
-pub enum Links {
-    InUse,
-    Bad(Fault),
-}
-
-// What a division leads to above it; or the fault of a child that is not in use.
-#[derive(Clone, Copy)]
-pub enum Plan {
-    Ok(Division),
-    Bad(Fault),
-}
-
 // Pages beside the new leaf: one for each that divides, the new top, and one more for a root that keeps its number.
+#[tactic(auto, unfolding(crate::specs::Plan::pages_asked))]
 pub fn pages_asked(root: u32, d: Division) -> usize
     requires { d.full ≤ 4 }
     ensures { result ≡ pages_asked root d }
@@ -45,24 +32,21 @@ pub fn pages_asked(root: u32, d: Division) -> usize
     d.full + 2
 }
 
-// n children from i on.
-fn links_from(pg: &[u8], used: u32, i: usize, n: usize) -> Links
+// The children i, .., i + n - 1 of a page are in use; or the fault of the first that is not.
+fn links_from(pg: &[u8], used: u32, i: usize, n: usize) -> Result<(), Fault>
     requires { (length pg.now ≡ 4096) × (i + n ≤ 511) }
     ensures { result ≡ in_use used (children_from pg.now i n) }
 {
-    let mut k = i;
-    let mut left = n;
-    while 0 < left {
-        let c = inner::child_at(pg, k);
-        if used <= c {
-            return Links::Bad(row::structural_fault(c));
+    for k in i..i + n {
+        let child = inner::child_at(pg, k);
+        if used <= child {
+            return Err(row::structural_fault(child));
         }
-        k += 1;
-        left -= 1;
     }
-    Links::InUse
+    Ok(())
 }
 
+// Of a page that divides so, the first child that goes to the right page.
 fn first_moved(i: usize) -> usize
     ensures { result ≡ first_moved i }
 {
@@ -73,41 +57,36 @@ fn first_moved(i: usize) -> usize
     }
 }
 
-// The children of a page that divides, with a pair to come after child i.
-fn links_in(pg: &[u8], used: u32, i: usize, relocated: bool) -> Links
+// The children of a page that divides, with a pair to come after child i, that would get a new parent link are in use.
+fn links_in(pg: &[u8], used: u32, i: usize, relocated: bool) -> Result<(), Fault>
     requires { length pg.now ≡ 4096 }
     ensures { result ≡ in_use used (relinks_in pg.now i relocated) }
 {
     let first = first_moved(i);
-    match links_from(pg, used, first, inner::MAX_CHILDREN - first) {
-        Links::Bad(f) => Links::Bad(f),
-        Links::InUse => {
-            if relocated {
-                return links_from(pg, used, 0, first);
-            }
-            Links::InUse
-        }
+    links_from(pg, used, first, inner::MAX_CHILDREN - first)?;
+    if relocated {
+        links_from(pg, used, 0, first)?;
     }
+    Ok(())
 }
 
 // What a division of the path's first page leads to above it; or the fault of a child that is not in use.
-pub fn plan_above(pool: &[u8], used: u32, path: Path) -> Plan
+pub fn plan_above(pool: &[u8], used: u32, path: Path) -> Result<Division, Fault>
     requires { (0 < path.len) × (path.len ≤ 4) × (used * 4096 ≤ length pool.now) × Stands used (page_at path 0) (pages_above path 0) pool.now }
     ensures { result ≡ plan_of pool.now used (page_at path 0) (pages_above path 0) }
 {
-    let mut full: usize = 0;
-    while full + 1 < path.len {
+    for full in 0..path.len - 1 {
         let p = path.pages[full + 1];
         let pg = page::pool::page_of(pool, p);
         if page::get_cell_count(pg) < inner::FULL {
-            return Plan::Ok(Division { full, grows: false });
+            return Ok(Division { full, grows: false });
         }
         let i = inner::child_place(pg, inner::MAX_CHILDREN, path.pages[full]);
         let top = full + 2 == path.len;
-        match links_in(pg, used, i, top & (p != 0)) {
-            Links::Bad(f) => return Plan::Bad(f),
-            Links::InUse => full += 1,
-        }
+        links_in(pg, used, i, top && p != 0)?;
     }
-    Plan::Ok(Division { full, grows: true })
+    Ok(Division {
+        full: path.len - 1,
+        grows: true,
+    })
 }

@@ -3,5 +3,4 @@ pub mod Spotting
 pub mod Cutting
 pub mod Planning
 pub mod Storing
-pub mod Readying
 pub mod Answering

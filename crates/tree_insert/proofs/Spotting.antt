@@ -1,5 +1,6 @@
 -- Where a new version goes: the leaf that the descent comes to is in use and a leaf, it is judged, and the place is between
--- two of its cells; and the ways out of the search for it, one law each. Assumes nothing.
+-- two of its cells. Assumes nothing.
+use Rattle.std.proofs.Common.{Result, Ok, Err}
 use mathlib.Core.Path.{◌≡◌, refl, sym, ap, ◌∙◌}
 use mathlib.Core.Bool.{Bool, true, false}
 use mathlib.Core.List.{List, [], ◌∷◌}
@@ -16,19 +17,14 @@ use Rattle.row.specs.declared.Cell.{Cell}
 use Rattle.row.specs.declared.Fault.{Fault}
 use Rattle.inner.specs.Inner.{judge_inner}
 use Rattle.row.specs.Fault.{structural}
-use Rattle.inner.specs.declared.InnerJudged.{InnerJudged}
 use Rattle.leaf.specs.Cells.{cells, fold_cells, in_order, judge_leaf, on_judged}
 use Rattle.leaf.specs.Place.{place_step, place_of, place_leaf}
 use Rattle.leaf.specs.RowFacts.{Sound}
-use Rattle.leaf.specs.declared.Judged.{Judged}
 use Rattle.leaf.specs.declared.place.Place.{Place}
-use Rattle.leaf.specs.declared.place.LeafPlace.{LeafPlace}
 use Rattle.tree.specs.Descend.{on_inner, child_of, descend_of, on_leaf}
 use Rattle.tree.specs.declared.Route.{Route}
-use Rattle.tree.specs.declared.Descent.{Descent}
 use Rattle.tree_insert.specs.Spot.{spot_in, spot_of}
 use Rattle.tree_insert.specs.declared.Spot.{Spot}
-use Rattle.tree_insert.specs.declared.Spotted.{Spotted}
 use Rattle.page.proofs.PageLaws.{length-page}
 use Rattle.leaf.proofs.Bytes.{bytes-page}
 use Rattle.leaf.proofs.Rowing.{end_of}
@@ -43,45 +39,26 @@ pub record LeafIn (used p : ℕ) (s : List ℕ) : Type 0 where
   pub kind : node_type (page s p) ≡ 1
 
 module _ (route : Route) (used : ℕ) (s : List ℕ) where
-  here-is : (p q : ℕ) (rest : Descent) → (rest ≡ Descent.Leaf q → LeafIn used q s)
-      → pick (ltb p used) (pick (eqb (node_type (page s p)) 1) (Descent.Leaf p) rest) (Descent.Bad (structural p)) ≡ Descent.Leaf q → LeafIn used q s
+  here-is : (p q : ℕ) (rest : Result ℕ Fault) → (rest ≡ Ok q → LeafIn used q s)
+      → pick (ltb p used) (pick (eqb (node_type (page s p)) 1) (Ok p) rest) (Err (structural p)) ≡ Ok q → LeafIn used q s
   here-is p q rest ih e = by_tests (ltb p used) (eqb (node_type (page s p)) 1) refl refl e
     where
-      by_tests : (a b : Bool) → ltb p used ≡ a → eqb (node_type (page s p)) 1 ≡ b → pick a (pick b (Descent.Leaf p) rest) (Descent.Bad (structural p)) ≡ Descent.Leaf q → LeafIn used q s
+      by_tests : (a b : Bool) → ltb p used ≡ a → eqb (node_type (page s p)) 1 ≡ b → pick a (pick b (Ok p) rest) (Err (structural p)) ≡ Ok q → LeafIn used q s
       by_tests true true u v w =
           let same : p ≡ q = cc in
           rw (← same) (record { in_use = ltb-true p used u; kind = eqb-true (node_type (page s p)) 1 v })
       by_tests true false u v w = ih w
-      by_tests false b u v w = absurd (let z : ◌≡◌ {A = ℕ} 0 1 = cc in omega arith)
+      by_tests false b u v w = absurd (cc)
 
-  pub leaf_in : (k p : ℕ) {q : ℕ} → descend_of s used p route k ≡ Descent.Leaf q → LeafIn used q s
+  pub leaf_in : (k p : ℕ) {q : ℕ} → descend_of s used p route k ≡ Ok q → LeafIn used q s
   unfolding descend_of
-  leaf_in zero p {q} e = here-is p q (Descent.Bad (structural p)) (λ w. absurd (let z : ◌≡◌ {A = ℕ} 0 1 = cc in omega arith)) e
-  leaf_in (suc k) p {q} e = here-is p q (on_inner (λ n. descend_of s used (child_of s p n route) route k) (λ f. Descent.Bad f) (judge_inner (page s p) p)) (by_inner (judge_inner (page s p) p) (λ n. leaf_in k (child_of s p n route))) e
+  leaf_in zero p {q} e = here-is p q (Err (structural p)) (λ w. absurd (cc)) e
+  leaf_in (suc k) p {q} e = here-is p q (on_inner (λ n. descend_of s used (child_of s p n route) route k) (λ f. Err f) (judge_inner (page s p) p)) (by_inner (judge_inner (page s p) p) (λ n. leaf_in k (child_of s p n route))) e
     where
-      by_inner : (j : InnerJudged) → ((n : ℕ) → descend_of s used (child_of s p n route) route k ≡ Descent.Leaf q → LeafIn used q s)
-          → on_inner (λ n. descend_of s used (child_of s p n route) route k) (λ f. Descent.Bad f) j ≡ Descent.Leaf q → LeafIn used q s
-      by_inner (InnerJudged.Ok n) ih w = ih n w
-      by_inner (InnerJudged.Bad f) ih w = absurd (let z : ◌≡◌ {A = ℕ} 0 1 = cc in omega arith)
-
--- ---- the ways out
-
-module _ (used root key creator : ℕ) (s : List ℕ) {d : Descent} (way : d ≡ descend_of s used root (Route.Insert key) 3) where
-  pub spot_lost : {f : Fault} → d ≡ Descent.Bad f → Spotted.Bad f ≡ spot_of s used root key creator
-  unfolding spot_of
-  spot_lost e = rw (sym way ∙ e)
-
-  module _ {p : ℕ} {pg : List ℕ} {r : LeafPlace} (e : d ≡ Descent.Leaf p) (here : pg ≡ page s p) (said : r ≡ place_leaf pg p key creator) where
-    placed_is : place_leaf (page s p) p key creator ≡ r
-    placed_is = rw (← here) (sym said)
-
-    pub spot_bad : {f : Fault} → r ≡ LeafPlace.Bad f → Spotted.Bad f ≡ spot_of s used root key creator
-    unfolding spot_of
-    spot_bad q = rw (sym way ∙ e, placed_is ∙ q)
-
-    pub spot_there : {x : Place} {n : ℕ} → r ≡ LeafPlace.Ok x n → Spotted.Ok (record { leaf = p; place = x; end = n }) ≡ spot_of s used root key creator
-    unfolding spot_of
-    spot_there q = rw (sym way ∙ e, placed_is ∙ q)
+      by_inner : (j : Result ℕ Fault) → ((n : ℕ) → descend_of s used (child_of s p n route) route k ≡ Ok q → LeafIn used q s)
+          → on_inner (λ n. descend_of s used (child_of s p n route) route k) (λ f. Err f) j ≡ Ok q → LeafIn used q s
+      by_inner (Ok n) ih w = ih n w
+      by_inner (Err f) ih w = absurd (cc)
 
 -- ---- the spot
 
@@ -98,19 +75,20 @@ place-among k c here (x ∷ xs) = by_order (in_order x.key x.version.creator k c
 
 -- what a judgement says of the place
 pub record PlaceIs (pg : List ℕ) (p k c : ℕ) (x : Place) (e : ℕ) : Type 0 where
-  pub judged : judge_leaf pg p ≡ Judged.Ok e
+  pub judged : judge_leaf pg p ≡ Ok e
   pub place : x ≡ place_of k c (cells pg)
 
-pub place_is : (pg : List ℕ) (p k c : ℕ) {x : Place} {e : ℕ} → place_leaf pg p k c ≡ LeafPlace.Ok x e → PlaceIs pg p k c x e
+pub place_is : (pg : List ℕ) (p k c : ℕ) {x : Place} {e : ℕ} → place_leaf pg p k c ≡ Ok (x, e) → PlaceIs pg p k c x e
 unfolding place_leaf
 place_is pg p k c {x} {e} h = by_judged (judge_leaf pg p) refl h
   where
-    by_judged : (j : Judged) → judge_leaf pg p ≡ j → on_judged (λ n. LeafPlace.Ok (place_of k c (cells pg)) n) (λ f. LeafPlace.Bad f) j ≡ LeafPlace.Ok x e → PlaceIs pg p k c x e
-    by_judged (Judged.Ok n) q w =
-        let same : n ≡ e = cc in
-        let at : place_of k c (cells pg) ≡ x = cc in
+    by_judged : (j : Result ℕ Fault) → judge_leaf pg p ≡ j → on_judged {A = Result (Place × ℕ) Fault} (λ n. Ok (place_of k c (cells pg), n)) (λ f. Err f) j ≡ Ok (x, e) → PlaceIs pg p k c x e
+    by_judged (Ok n) q w =
+        let t : ◌≡◌ {A = Place × ℕ} (place_of k c (cells pg), n) (x, e) = cc in
+        let same : n ≡ e = ap (λ (y : Place × ℕ). y.1) t in
+        let at : place_of k c (cells pg) ≡ x = ap (λ (y : Place × ℕ). y.0) t in
         record { judged = rw (← same) q; place = sym at }
-    by_judged (Judged.Bad f) q w = absurd (let z : ◌≡◌ {A = ℕ} 0 1 = cc in omega arith)
+    by_judged (Err f) q w = absurd (cc)
 
 pub record SpotIs (used key creator : ℕ) (s : List ℕ) (x : Spot) : Type 0 where
   pub in_use : x.leaf < used
@@ -130,22 +108,22 @@ record Told (used key creator : ℕ) (s : List ℕ) (x : Spot) : Type 0 where
   leaf : LeafIn used x.leaf s
   placed : PlaceIs (page s x.leaf) x.leaf key creator x.place x.end
 
-told : (used root key creator : ℕ) (s : List ℕ) (x : Spot) → spot_of s used root key creator ≡ Spotted.Ok x → Told used key creator s x
+told : (used root key creator : ℕ) (s : List ℕ) (x : Spot) → spot_of s used root key creator ≡ Ok x → Told used key creator s x
 unfolding spot_of
 told used root key creator s x e = by_way (descend_of s used root (Route.Insert key) 3) refl e
   where
-    by_place : (p : ℕ) (r : LeafPlace) → LeafIn used p s → place_leaf (page s p) p key creator ≡ r → spot_in p r ≡ Spotted.Ok x → Told used key creator s x
-    by_place p (LeafPlace.Ok here n) l q w =
+    by_place : (p : ℕ) (r : Result (Place × ℕ) Fault) → LeafIn used p s → place_leaf (page s p) p key creator ≡ r → spot_in p r ≡ Ok x → Told used key creator s x
+    by_place p (Ok (here, n)) l q w =
         let same : record { leaf = p; place = here; end = n } ≡ x = cc in
         rw (← same) (record { leaf = l; placed = place_is (page s p) p key creator q })
-    by_place p (LeafPlace.Bad f) l q w = absurd (let z : ◌≡◌ {A = ℕ} 0 1 = cc in omega arith)
+    by_place p (Err f) l q w = absurd (cc)
 
-    by_way : (d : Descent) → descend_of s used root (Route.Insert key) 3 ≡ d
-        → on_leaf (λ p. spot_in p (place_leaf (page s p) p key creator)) (λ f. Spotted.Bad f) d ≡ Spotted.Ok x → Told used key creator s x
-    by_way (Descent.Leaf p) q w = by_place p (place_leaf (page s p) p key creator) (leaf_in (Route.Insert key) used s 3 root q) refl w
-    by_way (Descent.Bad f) q w = absurd (let z : ◌≡◌ {A = ℕ} 0 1 = cc in omega arith)
+    by_way : (d : Result ℕ Fault) → descend_of s used root (Route.Insert key) 3 ≡ d
+        → on_leaf (λ p. spot_in p (place_leaf (page s p) p key creator)) (λ f. Err f) d ≡ Ok x → Told used key creator s x
+    by_way (Ok p) q w = by_place p (place_leaf (page s p) p key creator) (leaf_in (Route.Insert key) used s 3 root q) refl w
+    by_way (Err f) q w = absurd (cc)
 
-pub spot_is : (used root key creator : ℕ) (s : List ℕ) (x : Spot) → AreBytes s → used * 4096 ≤ length s → spot_of s used root key creator ≡ Spotted.Ok x
+pub spot_is : (used root key creator : ℕ) (s : List ℕ) (x : Spot) → AreBytes s → used * 4096 ≤ length s → spot_of s used root key creator ≡ Ok x
     → SpotIs used key creator s x
 unfolding place_of
 spot_is used root key creator s x B room e =

@@ -1,5 +1,6 @@
 -- The stores of a new version, as planned: where its leaf divides, what each call asks for and what all of them do; and where
 -- it fits, the one edit of its page. Assumes nothing.
+use Rattle.std.proofs.Common.{Option, Ok}
 use mathlib.Core.Path.{◌≡◌, sym, ◌∙◌}
 use mathlib.Core.Bool.{true, false}
 use mathlib.Core.List.{List}
@@ -17,55 +18,54 @@ use Rattle.page.specs.Pool.{good_pool, allocated, with_fresh, grown}
 use Rattle.page.specs.Key.{rank_at}
 use Rattle.page.specs.declared.pool.State.{State}
 use Rattle.page.specs.declared.pool.Allocated.{Allocated}
-use Rattle.row.specs.Write.{cell_size, cell_bytes}
-use Rattle.row.specs.declared.Stamp.{Stamp}
+use Rattle.row.specs.Write.{cell_size}
+use Rattle.row.specs.Row.{Row, row_size, row_bytes}
 use Rattle.row.specs.declared.Pointer.{Pointer}
 use Rattle.leaf_edit.specs.Edit.{with_cell}
 use Rattle.leaf_divide.specs.Divide.{divided}
 use Rattle.tree_grow.specs.Path.{page_at, pages_above}
 use Rattle.tree_grow.specs.Grow.{settled}
 use Rattle.tree_grow.specs.Steps.Safe.{There, AboveSafe}
-use Rattle.tree_room.specs.Room.{planned, leaf_plan, room_of}
+use Rattle.tree_room.specs.Room.{leaf_plan, room_of}
 use Rattle.tree_room.specs.Up.{divided_up}
 use Rattle.tree_room.specs.declared.Planned.{Planned}
 use Rattle.tree_insert.specs.Spot.{spot_of}
 use Rattle.tree_insert.specs.Insert.{bytes_with, cut_with, insert_plan, spliced_at, inserted_at}
 use Rattle.tree_insert.specs.Steps.Insert.{InsertCutStands}
 use Rattle.tree_insert.specs.declared.Spot.{Spot}
-use Rattle.tree_insert.specs.declared.Spotted.{Spotted}
 use Rattle.store.proofs.PutLaws.{length-spliced}
 use Rattle.store.proofs.SeamLaws.{spliced-before}
 use Rattle.page.proofs.PageLaws.{lent_page, back_page}
 use Rattle.page.proofs.PoolLaws.{pool-is, alloc_page}
-use Rattle.row.proofs.Writing.{stamp_len_lem, pointer_len_lem, length-cell}
+use Rattle.row.proofs.Writing.{stamp_len_lem, pointer_len_lem, length-row}
 use Rattle.tree_grow.proofs.Stepping.{next-is, fresh_long, fresh_here, fresh_other}
 use Rattle.tree_room.proofs.Keeping.{PlannedIs, planned-is, RoomLeft, room-left, room-is, up_asks, up_done}
 use Rattle.tree_insert.proofs.Spotting.{SpotIs, spot_is}
 use Rattle.tree_insert.proofs.Cutting.{cut_stands}
 
 -- a cell has 19 bytes at least, and 4084 at most
-pub cell-size : (stamp : Stamp) (pointer : Pointer) (n : ℕ) → n ≤ 4051 → (19 ≤ cell_size stamp pointer n) × (cell_size stamp pointer n ≤ 4084)
+pub cell-size : (stamp : Option ℕ) (pointer : Option Pointer) (n : ℕ) → n ≤ 4051 → (19 ≤ cell_size stamp pointer n) × (cell_size stamp pointer n ≤ 4084)
 cell-size stamp pointer n h =
     let a = stamp_len_lem stamp in
     let b = pointer_len_lem pointer in
     (omega arith, omega arith)
 
-module _ (s : List ℕ) (st : State) (x : Spot) (plan : Planned) (key creator : ℕ) (stamp : Stamp) (pointer : Pointer) (body : List ℕ)
-    (B : AreBytes s) (good : good_pool s st ≡ true) (short : length body ≤ 4051) (spot : spot_of s st.used st.root key creator ≡ Spotted.Ok x)
-    (plans : insert_plan s st x (cell_size stamp pointer (length body)) ≡ planned plan) where
+module _ (s : List ℕ) (st : State) (x : Spot) (plan : Planned) (version : Row)
+    (B : AreBytes s) (good : good_pool s st ≡ true) (short : length version.body ≤ 4051) (spot : spot_of s st.used st.root version.key version.creator ≡ Ok x)
+    (plans : insert_plan s st x (row_size version) ≡ Ok plan) where
   abbrev m : ℕ
-  m = cell_size stamp pointer (length body)
+  m = row_size version
 
   abbrev new : List ℕ
-  new = cell_bytes key creator stamp pointer body
+  new = row_bytes version
 
   abbrev pg : List ℕ
   pg = page s x.leaf
 
-  pub stored_at : SpotIs st.used key creator s x
-  stored_at = spot_is st.used st.root key creator s x B (pool-is s st good).room spot
+  pub stored_at : SpotIs st.used version.key version.creator s x
+  stored_at = spot_is st.used st.root version.key version.creator s x B (pool-is s st good).room spot
 
-  leaf-plans : leaf_plan s st x.leaf (ltb 4084 (bytes_with x m)) (cut_with pg x m) ≡ planned plan
+  leaf-plans : leaf_plan s st x.leaf (ltb 4084 (bytes_with x m)) (cut_with pg x m) ≡ Ok plan
   unfolding insert_plan
   leaf-plans = plans
 
@@ -86,14 +86,14 @@ module _ (s : List ℕ) (st : State) (x : Spot) (plan : Planned) (key creator : 
 
   -- ---- where it divides
 
-  module _ (over : plan.over ≡ true) (room : room_of (length s / 4096) st (bytes_with x m) plan ≡ 0) where
+  module _ (over : plan.over ≡ true) (room : room_of (length s / 4096) st (bytes_with x m) plan ≡ Ok tt) where
     overfull : 4084 < bytes_with x m
     overfull = ltb-true 4084 (bytes_with x m) (sym told.same ∙ over)
 
     cut_is : plan.cut ≡ cut_with pg x m
     cut_is = told.at_cut (sym told.same ∙ over)
 
-    over_plans : leaf_plan s st x.leaf true (cut_with pg x m) ≡ planned plan
+    over_plans : leaf_plan s st x.leaf true (cut_with pg x m) ≡ Ok plan
     over_plans = rw (sym told.same ∙ over) at leaf-plans
 
     pub free_left : RoomLeft s st plan
@@ -101,9 +101,9 @@ module _ (s : List ℕ) (st : State) (x : Spot) (plan : Planned) (key creator : 
 
     pub cut_there : {n : ℕ} → n ≡ cell_count pg → InsertCutStands x m n plan.cut
     cut_there e =
-        let c = cell-size stamp pointer (length body) short in
+        let c = cell-size version.stamp version.pointer (length version.body) short in
         let f = (room-is (length s / 4096) st (bytes_with x m) plan room over).cuts in
-        rw (e, cut_is) (cut_stands st.used key creator s x m stored_at c.0 c.1 overfull (rw cut_is at f))
+        rw (e, cut_is) (cut_stands st.used version.key version.creator s x m stored_at c.0 c.1 overfull (rw cut_is at f))
 
     module _ {a : Allocated} {s₁ : List ℕ} (given : a ≡ allocated s st) (fresh : s₁ ≡ with_fresh s st) where
       page-is : a.page ≡ st.used
@@ -124,7 +124,7 @@ module _ (s : List ℕ) (st : State) (x : Spot) (plan : Planned) (key creator : 
         v_long : length (spliced_at x new pg) ≡ 12 + bytes_with x m
         v_long =
             length-spliced x.place.at x.place.at x.end new pg (omega arith) stored_at.inside (rw stored_at.sound.whole stored_at.within)
-            ∙ omega (arith, length-cell key creator stamp pointer body, stored_at.low, stored_at.inside)
+            ∙ omega (arith, length-row version, stored_at.low, stored_at.inside)
 
         v_head : part 0 12 (spliced_at x new pg) ≡ part 0 12 pg
         v_head =

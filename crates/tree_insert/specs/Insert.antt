@@ -1,6 +1,6 @@
 -- A new version put into its leaf (document 01, section 5): in place where it fits; otherwise the leaf divides, and what
 -- follows above is said by `settled`.
-use Rattle.std.specs.Prelude.{List, ℕ, ◌+◌, ◌-◌, ltb}
+use Rattle.std.specs.Prelude.{Result, List, ℕ, ◌+◌, ◌-◌, ltb}
 use Rattle.store.specs.Pick.{pick}
 use Rattle.store.specs.Part.{spliced}
 use Rattle.page.specs.Page.{page, set_page}
@@ -14,7 +14,7 @@ use Rattle.tree_room.specs.Room.{leaf_plan}
 use Rattle.tree_room.specs.Up.{divided_up}
 use Rattle.tree_insert.specs.declared.Spot.{Spot}
 use Rattle.tree_room.specs.declared.Planned.{Planned}
-use Rattle.tree_room.specs.declared.LeafPlan.{LeafPlan}
+use Rattle.row.specs.declared.Fault.{Fault}
 
 -- the bytes of all cells, with a new one of m bytes
 abbrev pub bytes_with : Spot → (m : ℕ) → ℕ
@@ -25,7 +25,7 @@ abbrev pub cut_with : List ℕ → Spot → (m : ℕ) → Cut
 cut_with pg x m = cut_leaf pg (bytes_with x m) x.place.before x.place.at (cell_count pg - x.place.before) m
 
 -- "An overfull leaf (cells over 4084 bytes) is cut"
-unfoldable pub insert_plan : List ℕ → State → Spot → (m : ℕ) → LeafPlan
+unfoldable pub insert_plan : List ℕ → State → Spot → (m : ℕ) → Result Planned Fault
 insert_plan s st x m = leaf_plan s st x.leaf (ltb leaf_room (bytes_with x m)) (cut_with (page s x.leaf) x m)
 
 -- the leaf's bytes with the cell's bytes b at its place; they may be more than a page holds

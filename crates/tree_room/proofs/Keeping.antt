@@ -1,5 +1,6 @@
 -- What a plan is good for, where it leaves room: what it says of the climb and of the pages above, that the pool with its
 -- leaf divided has no other page changed, and that every store above the division is inside the pool. Assumes nothing.
+use Rattle.std.proofs.Common.{Result, Ok, Err}
 use mathlib.Core.Path.{◌≡◌, refl, sym, ap, ◌∙◌, subst}
 use mathlib.Core.Bool.{Bool, true, false, and-eq-true_iff}
 use mathlib.Core.List.{List, [], ◌∷◌, ◌++◌}
@@ -17,11 +18,11 @@ use Rattle.page.specs.Key.{rank_at}
 use Rattle.page.specs.declared.pool.State.{State}
 use Rattle.page.specs.declared.pool.Allocated.{Allocated}
 use Rattle.row.specs.declared.Fault.{Fault}
+use Rattle.call_answers.specs.declared.Refusal.{Refusal}
 use Rattle.leaf.specs.Place.{larger_side, cut_fits}
 use Rattle.leaf.specs.declared.place.Cut.{Cut}
 use Rattle.tree.specs.Climb.{climb_of, climbed}
 use Rattle.tree.specs.declared.climb.Path.{Path}
-use Rattle.tree.specs.declared.climb.Climbed.{Climbed}
 use Rattle.leaf_divide.specs.Divide.{left_leaf, right_leaf, divided}
 use Rattle.tree_grow.specs.Path.{page_at, pages_above}
 use Rattle.tree_grow.specs.Grow.{settled}
@@ -29,12 +30,9 @@ use Rattle.tree_grow.specs.Steps.Safe.{There, AboveSafe}
 use Rattle.tree_grow.specs.Plan.{full_pages, division_of, pages_asked, relinks, in_use, on_links, plan_of}
 use Rattle.tree_grow.specs.Steps.PlanFacts.{LeafDivided}
 use Rattle.tree_grow.specs.declared.plan.Division.{Division}
-use Rattle.tree_grow.specs.declared.plan.Links.{Links}
-use Rattle.tree_grow.specs.declared.plan.Plan.{Plan}
-use Rattle.tree_room.specs.Room.{on_plan, fitting, dividing, planned, unplanned, leaf_plan, grows_too_deep, room_of}
+use Rattle.tree_room.specs.Room.{on_climbed, on_plan, fitting, dividing, leaf_plan, grows_too_deep, room_of}
 use Rattle.tree_room.specs.Up.{divided_up}
 use Rattle.tree_room.specs.declared.Planned.{Planned}
-use Rattle.tree_room.specs.declared.LeafPlan.{LeafPlan}
 use Rattle.store.proofs.LeLaws.{length-put_at, le_at-put_at-below}
 use Rattle.store.proofs.PartLaws.{length_part, le_at-same, part-part}
 use Rattle.store.proofs.SeamLaws.{length-pad, part-pad}
@@ -142,13 +140,13 @@ division_few : (ps s : List ℕ) → (division_of ps s).full ≤ length ps
 unfolding division_of
 division_few ps s = full_few ps s
 
-plan_division : (used old : ℕ) (ps s : List ℕ) {d : Division} → plan_of s used old ps ≡ Plan.Ok d → d ≡ division_of ps s
+plan_division : (used old : ℕ) (ps s : List ℕ) {d : Division} → plan_of s used old ps ≡ Ok d → d ≡ division_of ps s
 unfolding plan_of
 plan_division used old ps s {d} e = by_links (in_use used (relinks s old ps)) e
   where
-    by_links : (l : Links) → on_links (Plan.Ok (division_of ps s)) (λ f. Plan.Bad f) l ≡ Plan.Ok d → d ≡ division_of ps s
-    by_links Links.InUse u = cc
-    by_links (Links.Bad f) u = absurd (let z : ◌≡◌ {A = ℕ} 0 1 = cc in omega arith)
+    by_links : (l : Result Unit Fault) → on_links (Ok (division_of ps s)) (λ f. Err f) l ≡ Ok d → d ≡ division_of ps s
+    by_links (Ok _) u = cc
+    by_links (Err f) u = absurd (cc)
 
 -- page p, overfull or not, with that cut, has that plan
 pub record PlannedIs (st : State) (p : ℕ) (over : Bool) (cut : Cut) (s : List ℕ) (plan : Planned) : Type 0 where
@@ -156,7 +154,7 @@ pub record PlannedIs (st : State) (p : ℕ) (over : Bool) (cut : Cut) (s : List 
   pub climbs : Climbs st p s plan.path
   pub few : plan.above.full ≤ 4
   pub at_cut : over ≡ true → plan.cut ≡ cut
-  pub plans : over ≡ true → plan_of s st.used p (pages_above plan.path 0) ≡ Plan.Ok plan.above
+  pub plans : over ≡ true → plan_of s st.used p (pages_above plan.path 0) ≡ Ok plan.above
   pub divides : over ≡ true → plan.above ≡ division_of (pages_above plan.path 0) s
 
 module _ (st : State) (p : ℕ) (over : Bool) (cut : Cut) (s : List ℕ) where
@@ -166,12 +164,12 @@ module _ (st : State) (p : ℕ) (over : Bool) (cut : Cut) (s : List ℕ) where
         same = sym o;
         climbs = h;
         few = omega arith;
-        at_cut = λ e. absurd (let z : ◌≡◌ {A = ℕ} 0 1 = cc in omega arith);
-        plans = λ e. absurd (let z : ◌≡◌ {A = ℕ} 0 1 = cc in omega arith);
-        divides = λ e. absurd (let z : ◌≡◌ {A = ℕ} 0 1 = cc in omega arith);
+        at_cut = λ e. absurd (cc);
+        plans = λ e. absurd (cc);
+        divides = λ e. absurd (cc);
       }
 
-  divides_is : {path : Path} {d : Division} → over ≡ true → Climbs st p s path → plan_of s st.used (page_at path 0) (pages_above path 0) ≡ Plan.Ok d
+  divides_is : {path : Path} {d : Division} → over ≡ true → Climbs st p s path → plan_of s st.used (page_at path 0) (pages_above path 0) ≡ Ok d
       → PlannedIs st p over cut s (dividing path cut d)
   divides_is {path} {d} o h e =
       let f = rw h.first at e in
@@ -185,36 +183,33 @@ module _ (st : State) (p : ℕ) (over : Bool) (cut : Cut) (s : List ℕ) where
         divides = λ e. g;
       }
 
-  none_is : {f : Fault} {plan : Planned} → unplanned f ≡ planned plan → PlannedIs st p over cut s plan
-  none_is u = absurd (let y : ◌≡◌ {A = Bool} false true = ap (λ (x : LeafPlan). x.ok) u in let z : ◌≡◌ {A = ℕ} 0 1 = cc in omega arith)
+  abbrev plan₀ : Path → Result Division Fault
+  plan₀ path = plan_of s st.used (page_at path 0) (pages_above path 0)
 
-  told : {x plan : Planned} → planned x ≡ planned plan → PlannedIs st p over cut s x → PlannedIs st p over cut s plan
-  told u = subst (λ (y : Planned). PlannedIs st p over cut s y) (ap (λ (y : LeafPlan). y.plan) u)
+  abbrev onward : Path → Result Division Fault → Result Planned Fault
+  onward path d = on_plan (λ a. Ok (dividing path cut a)) (λ f. Err f) d
 
-  -- by the climb c
-  module _ (c : Climbed) (climb : c ≡ climbed (climb_of s st.used st.root p 3)) where
-    abbrev onward : Plan → LeafPlan
-    onward d = on_plan (λ a. planned (dividing c.path cut a)) (λ f. unplanned f) d
+  module _ {plan : Planned} where
+    told : {x : Planned} → ◌≡◌ {A = Result Planned Fault} (Ok x) (Ok plan) → PlannedIs st p over cut s x → PlannedIs st p over cut s plan
+    told {x} u = let e : x ≡ plan = cc in subst (λ (y : Planned). PlannedIs st p over cut s y) e
 
-    abbrev plan₀ : Plan
-    plan₀ = plan_of s st.used (page_at c.path 0) (pages_above c.path 0)
+    by_plan : {path : Path} → Climbs st p s path → over ≡ true → (d : Result Division Fault) → plan₀ path ≡ d → onward path d ≡ Ok plan → PlannedIs st p over cut s plan
+    by_plan h o (Ok d) g u = told u (divides_is o h g)
+    by_plan h o (Err f) g u = absurd (cc)
 
-    module _ {plan : Planned} where
-      by_plan : Climbs st p s c.path → over ≡ true → (d : Plan) → plan₀ ≡ d → onward d ≡ planned plan → PlannedIs st p over cut s plan
-      by_plan h o (Plan.Ok d) g u = told u (divides_is o h g)
-      by_plan h o (Plan.Bad f) g u = none_is u
+    by_over : {path : Path} → Climbs st p s path → (b : Bool) → over ≡ b → pick b (onward path (plan₀ path)) (Ok (fitting path)) ≡ Ok plan → PlannedIs st p over cut s plan
+    by_over {path} h true o u = by_plan h o (plan₀ path) refl u
+    by_over h false o u = told u (fits-is o h)
 
-      by_over : Climbs st p s c.path → (b : Bool) → over ≡ b → pick b (onward plan₀) (planned (fitting c.path)) ≡ planned plan → PlannedIs st p over cut s plan
-      by_over h true o u = by_plan h o plan₀ refl u
-      by_over h false o u = told u (fits-is o h)
+    by_climb : (c : Result Path Fault) → c ≡ climbed (climb_of s st.used st.root p 3)
+        → on_climbed (λ path. pick over (onward path (plan₀ path)) (Ok (fitting path))) (λ f. Err f) c ≡ Ok plan
+        → PlannedIs st p over cut s plan
+    by_climb (Ok path) climb u = by_over (climb_climbs st p s climb refl) over refl u
+    by_climb (Err f) climb u = absurd (cc)
 
-      by_ok : (b : Bool) → c.ok ≡ b → pick b (pick over (onward plan₀) (planned (fitting c.path))) (unplanned c.fault) ≡ planned plan → PlannedIs st p over cut s plan
-      by_ok true o u = by_over (climb_climbs st p s climb o) over refl u
-      by_ok false o u = none_is u
-
-  pub planned-is : {plan : Planned} → leaf_plan s st p over cut ≡ planned plan → PlannedIs st p over cut s plan
+  pub planned-is : {plan : Planned} → leaf_plan s st p over cut ≡ Ok plan → PlannedIs st p over cut s plan
   unfolding leaf_plan
-  planned-is e = let c = climbed (climb_of s st.used st.root p 3) in by_ok c refl c.ok refl e
+  planned-is e = by_climb (climbed (climb_of s st.used st.root p 3)) refl e
 
 -- ---- the room
 
@@ -233,19 +228,19 @@ cut_sides t cut e =
     let b = leb-true (larger_side t cut) 4084 a.1 in
     (leb-true 1 cut.cells a.0, omega arith, omega arith)
 
-pub room-is : (pages : ℕ) (st : State) (t : ℕ) (x : Planned) → room_of pages st t x ≡ 0 → x.over ≡ true → RoomIs pages st t x
+pub room-is : (pages : ℕ) (st : State) (t : ℕ) (x : Planned) → room_of pages st t x ≡ Ok tt → x.over ≡ true → RoomIs pages st t x
 unfolding room_of
 room-is pages st t x e o =
     by_tests (cut_fits t x.cut) refl (grows_too_deep x) (leb (st.used + 1 + pages_asked st.root x.above) pages) refl (rw o at e)
   where
     by_tests : (a : Bool) → cut_fits t x.cut ≡ a → (b c : Bool) → leb (st.used + 1 + pages_asked st.root x.above) pages ≡ c
-        → ◌≡◌ {A = ℕ} (pick a (pick b 11 (pick c 0 10)) 9) 0 → RoomIs pages st t x
+        → ◌≡◌ {A = Result Unit Refusal} (pick a (pick b (Err Refusal.TooDeep) (pick c (Ok tt) (Err Refusal.NoPages))) (Err Refusal.Undividable)) (Ok tt) → RoomIs pages st t x
     by_tests true f false true l u =
         let k = cut_sides t x.cut f in
         record { cuts = f; some = k.0; left = k.1; right = k.2; asked = leb-true (st.used + 1 + pages_asked st.root x.above) pages l }
-    by_tests true f false false l u = absurd (omega arith)
-    by_tests true f true c l u = absurd (omega arith)
-    by_tests false f b c l u = absurd (omega arith)
+    by_tests true f false false l u = absurd (cc)
+    by_tests true f true c l u = absurd (cc)
+    by_tests false f b c l u = absurd (cc)
 
 -- in a good pool
 pub record RoomLeft (s : List ℕ) (st : State) (x : Planned) : Type 0 where
@@ -254,7 +249,7 @@ pub record RoomLeft (s : List ℕ) (st : State) (x : Planned) : Type 0 where
   pub all_few : st.used + 1 + pages_asked st.root x.above ≤ 65536
   pub all_there : (st.used + 1 + pages_asked st.root x.above) * 4096 ≤ length s
 
-pub room-left : (s : List ℕ) (st : State) (t : ℕ) (x : Planned) → good_pool s st ≡ true → room_of (length s / 4096) st t x ≡ 0 → x.over ≡ true → RoomLeft s st x
+pub room-left : (s : List ℕ) (st : State) (t : ℕ) (x : Planned) → good_pool s st ≡ true → room_of (length s / 4096) st t x ≡ Ok tt → x.over ≡ true → RoomLeft s st x
 room-left s st t x good e o =
     let g = pool-is s st good in
     let a = (room-is (length s / 4096) st t x e o).asked in
@@ -264,7 +259,7 @@ room-left s st t x good e o =
 -- ---- all together
 
 pub planned_safe : (s : List ℕ) (st : State) (p t : ℕ) (cut : Cut) (plan : Planned) (sep : ℕ) (g : Grown) → good_pool s st ≡ true → p < st.used
-    → node_type (page s p) ≡ 1 → leaf_plan s st p true cut ≡ planned plan → room_of (length s / 4096) st t plan ≡ 0 → LeafDivided s st p g
+    → node_type (page s p) ≡ 1 → leaf_plan s st p true cut ≡ Ok plan → room_of (length s / 4096) st t plan ≡ Ok tt → LeafDivided s st p g
     → AboveSafe st.root p sep st.used (pages_above plan.path 0) g
 planned_safe s st p t cut plan sep g good low kind e room leaf =
     let is = planned-is st p true cut s e in
@@ -279,7 +274,7 @@ planned_safe s st p t cut plan sep g good low kind e room leaf =
 
 -- v, of t bytes and the header, is what the leaf p would hold; a is what was handed out, u the pool with the leaf divided
 module _ (s : List ℕ) (st : State) (p n t : ℕ) (cut : Cut) (v : List ℕ) {plan : Planned} (good : good_pool s st ≡ true) (low : p < st.used) (kind : node_type (page s p) ≡ 1)
-    (plans : leaf_plan s st p true cut ≡ planned plan) (room : room_of (length s / 4096) st t plan ≡ 0) (head : part 0 12 v ≡ part 0 12 (page s p))
+    (plans : leaf_plan s st p true cut ≡ Ok plan) (room : room_of (length s / 4096) st t plan ≡ Ok tt) (head : part 0 12 v ≡ part 0 12 (page s p))
     (size : length v ≡ 12 + t) (inside : plan.cut.bytes ≤ t)
     {a : Allocated} {s₁ u : List ℕ} (given : a ≡ allocated s st) (fresh : s₁ ≡ with_fresh s st) (divides : u ≡ divided p a.page n plan.cut v s₁) where
   is : PlannedIs st p true cut s plan

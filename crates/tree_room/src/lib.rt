@@ -3,14 +3,14 @@
 #![tactic(auto)]
 
 ghost use Rattle.std.specs.Prelude.{◌≡◌, ◌*◌, ◌≤◌, ◌<◌, length};
-ghost use Rattle.tree_room.specs.Room.{fitting, planned, unplanned, leaf_plan, room_of};
+ghost use Rattle.tree_room.specs.Room.{fitting, leaf_plan, room_of};
 
-use call_answers::{NO_PAGES, TOO_DEEP, UNDIVIDABLE};
+use call_answers::Refusal;
 use leaf::place::Cut;
 use page::pool::State;
 use row::Fault;
 use tree::climb::Path;
-use tree_grow::plan::{Division, Plan};
+use tree_grow::plan::Division;
 
 // The path above a leaf that is to be written; where it would be overfull, its cut and what follows above.
 #[derive(Clone, Copy)]
@@ -21,16 +21,8 @@ pub struct Planned {
     pub above: Division,
 }
 
-// A plan, where it is ok; otherwise the fault that leaves none.
-#[derive(Clone, Copy)]
-pub struct LeafPlan {
-    pub ok: bool,
-    pub fault: Fault,
-    pub plan: Planned,
-}
-
 // The plan of a leaf that has room: nothing divides.
-pub fn fits_as(path: Path) -> Planned
+fn fits_as(path: Path) -> Planned
     ensures { result ≡ fitting path }
 {
     Planned {
@@ -44,74 +36,44 @@ pub fn fits_as(path: Path) -> Planned
     }
 }
 
-fn planned_as(plan: Planned) -> LeafPlan
-    ensures { result ≡ planned plan }
-{
-    LeafPlan {
-        ok: true,
-        fault: row::NO_FAULT,
-        plan,
-    }
-}
-
-fn unplanned_by(f: Fault) -> LeafPlan
-    ensures { result ≡ unplanned f }
-{
-    let plan = fits_as(Path {
-        pages: [0u32; 4],
-        len: 0,
-    });
-    LeafPlan {
-        ok: false,
-        fault: f,
-        plan,
-    }
-}
-
-// Page p would be written: the climb from it, and where it would be overfull the plan above.
-pub fn plan_leaf(pool: &[u8], st: State, p: u32, over: bool, cut: Cut) -> LeafPlan
+// Page p would be written: the climb from it, and where it would be overfull the plan above; or the first fault on the way.
+#[tactic(auto, unfolding(crate::specs::Room::leaf_plan))]
+pub fn plan_leaf(pool: &[u8], st: State, p: u32, over: bool, cut: Cut) -> Result<Planned, Fault>
     requires { (st.used * 4096 ≤ length pool.now) × (p < st.used) }
     ensures { result ≡ leaf_plan pool.now st p over cut }
 {
-    let up = tree::climb::climb(pool, st.used, st.root, p);
-    let path = up.path;
-    if !up.ok {
-        return unplanned_by(up.fault);
-    }
+    let path = tree::climb::climb(pool, st.used, st.root, p)?;
     if !over {
-        return planned_as(fits_as(path));
+        return Ok(fits_as(path));
     }
-    match tree_grow::plan::plan_above(pool, st.used, path) {
-        Plan::Bad(f) => unplanned_by(f),
-        Plan::Ok(above) => planned_as(Planned {
-            path,
-            over: true,
-            cut,
-            above,
-        }),
-    }
+    let above = tree_grow::plan::plan_above(pool, st.used, path)?;
+    Ok(Planned {
+        path,
+        over: true,
+        cut,
+        above,
+    })
 }
 
-// Undividable, TooDeep or NoPages, or 0: of a pool of so many pages, for a leaf of t bytes.
-pub fn refusal(pages: usize, st: State, t: usize, x: Planned) -> u8
+// Whether a pool of so many pages has room for the plan of a leaf of t bytes; otherwise Undividable, TooDeep or NoPages.
+#[tactic(auto, unfolding(crate::specs::Room::room_of))]
+pub fn judge_room(pages: usize, st: State, t: usize, x: Planned) -> Result<(), Refusal>
     requires { (x.above.full ≤ 4) × (st.used ≤ pages) × (pages ≤ 65536) }
     ensures { result ≡ room_of pages st t x }
 {
     let above = x.above;
     let path = x.path;
     if !x.over {
-        return 0;
+        return Ok(());
     }
     if !leaf::place::cut_fits(t, x.cut) {
-        return UNDIVIDABLE;
+        return Err(Refusal::Undividable);
     }
-    if above.grows {
-        if path.len == 4 {
-            return TOO_DEEP;
-        }
+    if above.grows && path.len == 4 {
+        return Err(Refusal::TooDeep);
     }
     if pages < st.used as usize + 1 + tree_grow::plan::pages_asked(st.root, above) {
-        return NO_PAGES;
+        return Err(Refusal::NoPages);
     }
-    0
+    Ok(())
 }

@@ -1,5 +1,6 @@
 -- The cut of a leaf with one cell stamped is between two cells: the sizes before it, its own and the sizes after it add up to
 -- the cut's bytes, so that both sides are those of a division. Assumes nothing.
+use Rattle.std.proofs.Common.{Option, Some, None}
 use mathlib.Core.Path.{◌≡◌, refl, sym, ap, ◌∙◌, subst}
 use mathlib.Core.Bool.{Bool, true, false}
 use mathlib.Core.List.{List, [], ◌∷◌, ◌++◌}
@@ -11,7 +12,6 @@ use lib.ListN.{length, take, length-append, length-map}
 use Rattle.store.specs.Pick.{pick}
 use Rattle.page.specs.Header.{cell_count}
 use Rattle.row.specs.Write.{stamp_len}
-use Rattle.row.specs.declared.Stamp.{Stamp}
 use Rattle.row.specs.declared.Cell.{Cell}
 use Rattle.leaf.specs.Cells.{cells_of}
 use Rattle.leaf.specs.Place.{larger_side, better_cut, no_cut, cut_step, cut_after, cut_of, sizes_of, cut_leaf, cut_fits}
@@ -38,12 +38,12 @@ cut_alone t m [] (y ∷ ys) h k = absurd (omega arith)
 cut_alone t m (x ∷ xs) ys h k = absurd (omega arith)
 
 -- only a cell without a stamp gets longer
-pub longer-live : (c : Cell) → 0 < longer c → (c.version.stamp ≡ Stamp.Absent) × (longer c ≡ 8)
+pub longer-live : (c : Cell) → 0 < longer c → (c.version.stamp ≡ None) × (longer c ≡ 8)
 longer-live c h = by_stamp c.version.stamp refl h
   where
-    by_stamp : (x : Stamp) → c.version.stamp ≡ x → 0 < 9 - stamp_len x → (c.version.stamp ≡ Stamp.Absent) × (longer c ≡ 8)
-    by_stamp Stamp.Absent e l = (e, rw e)
-    by_stamp (Stamp.By d) e l = absurd (omega arith)
+    by_stamp : (x : Option ℕ) → c.version.stamp ≡ x → 0 < 9 - stamp_len x → (c.version.stamp ≡ None) × (longer c ≡ 8)
+    by_stamp None e l = (e, rw e)
+    by_stamp (Some d) e l = absurd (omega arith)
 
 module _ (t : Target) (pg : List ℕ) (short : length pg ≤ 4096) (is : Stands pg t.cell t.beside) (over : 4084 < bytes_stamped t) where
   abbrev pub m : ℕ
@@ -58,7 +58,7 @@ module _ (t : Target) (pg : List ℕ) (short : length pg ≤ 4096) (is : Stands 
   abbrev pub all : List ℕ
   all = xs ++ (m ∷ ys)
 
-  pub live : (t.cell.version.stamp ≡ Stamp.Absent) × (longer t.cell ≡ 8)
+  pub live : (t.cell.version.stamp ≡ None) × (longer t.cell ≡ 8)
   live = longer-live t.cell (omega (arith, is.within))
 
   sizes_are : sizes_of (cells_of pg t.beside.before 12) ++ (m ∷ sizes_of (cells_of pg (cell_count pg - (t.beside.before + 1)) t.cell.next)) ≡ all

@@ -4,5 +4,4 @@ pub mod Sums
 pub mod Cutting
 pub mod Counting
 pub mod Planning
-pub mod Readying
 pub mod Storing

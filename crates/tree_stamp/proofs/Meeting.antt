@@ -1,5 +1,7 @@
 -- What a lookup finds is met: its page is in use, was judged, and the cell is among its cells; and what stands beside it is
 -- how many cells are before it and where the page's cells end. Assumes nothing.
+use Rattle.std.proofs.Common.{Some, None, Result, Ok, Err}
+use Rattle.row.specs.declared.Fault.{Fault}
 use mathlib.Core.Path.{◌≡◌, refl, sym, ap, ◌∙◌, subst}
 use mathlib.Core.Bool.{Bool, true, false, ◌&&◌}
 use mathlib.Core.List.{List, [], ◌∷◌, ◌++◌, append_assoc}
@@ -13,20 +15,14 @@ use Rattle.page.specs.Page.{page}
 use Rattle.page.specs.Header.{node_type, next_leaf, cell_count}
 use Rattle.row.specs.Read.{cell_at}
 use Rattle.row.specs.declared.Cell.{Cell}
-use Rattle.row.specs.declared.read.CellRead.{CellRead}
 use Rattle.row.specs.Fault.{structural}
 use Rattle.mvcc.specs.Rules.{visible}
 use Rattle.leaf.specs.Cells.{cells, fold_cells, judge_cells, judge_leaf, on_judged, has_larger}
-use Rattle.leaf.specs.Find.{later, newest, find_leaf}
-use Rattle.leaf.specs.declared.Judged.{Judged}
-use Rattle.leaf.specs.declared.find.Best.{Best}
-use Rattle.leaf.specs.declared.find.LeafBest.{LeafBest}
+use Rattle.leaf.specs.Find.{later, newest, find_leaf, Best}
 use Rattle.tree.specs.Descend.{descend_of, on_leaf}
-use Rattle.tree.specs.Chain.{Told, ok, ill, on_seen, along, seen_best, told_best, look_best, best_along}
+use Rattle.tree.specs.Chain.{on_seen, along, seen_best, look_best, best_along}
 use Rattle.tree.specs.Lookup.{best_in_tree}
 use Rattle.tree.specs.declared.Route.{Route}
-use Rattle.tree.specs.declared.Descent.{Descent}
-use Rattle.tree.specs.declared.ChainBest.{ChainBest}
 use Rattle.tree_stamp.specs.Target.{beside_step, beside_of, target_of}
 use Rattle.tree_stamp.specs.Steps.Target.{CellMet}
 use Rattle.tree_stamp.specs.declared.Beside.{Beside}
@@ -40,17 +36,17 @@ use Rattle.leaf.proofs.Chain.{Chain, chain-cells, chain-right, chain-inside, end
 -- ---- what a lookup finds
 
 abbrev BestMet : List ℕ → ℕ → Best → Type 0
-BestMet s used Best.Nothing = Unit
-BestMet s used (Best.At p c) = CellMet used p c s
+BestMet s used None = Unit
+BestMet s used (Some (p, c)) = CellMet used p c s
 
 either : {A : Type 0} (P : A → Type 0) (b : Bool) {x y : A} → P x → P y → P (pick b x y)
 either P true p q = p
 either P false p q = q
 
-module _ (s : List ℕ) (used p : ℕ) (low : p < used) {e : ℕ} (judged : judge_leaf (page s p) p ≡ Judged.Ok e) where
+module _ (s : List ℕ) (used p : ℕ) (low : p < used) {e : ℕ} (judged : judge_leaf (page s p) p ≡ Ok e) where
   later-met : (best : Best) (xs : List Cell) (c : Cell) (ys : List Cell) → cells (page s p) ≡ xs ++ (c ∷ ys) → BestMet s used best → BestMet s used (later p best c)
-  later-met Best.Nothing xs c ys w b = record { in_use = low; end = e; judged = judged; before = xs; after = ys; among = w }
-  later-met (Best.At q o) xs c ys w b =
+  later-met None xs c ys w b = record { in_use = low; end = e; judged = judged; before = xs; after = ys; among = w }
+  later-met (Some (q, o)) xs c ys w b =
       either (BestMet s used) (ltb c.version.creator o.version.creator) b (record { in_use = low; end = e; judged = judged; before = xs; after = ys; among = w })
 
   module _ (sn : Snapshot) (st : ℕ → ℕ) (key : ℕ) where
@@ -67,63 +63,64 @@ module _ (s : List ℕ) (used p : ℕ) (low : p < used) {e : ℕ} (judged : judg
         fold-met (xs ++ (c ∷ [])) ys (newest p key sn st best c) (w ∙ simp append_assoc) (newest-met best xs c ys w b)
 
 module _ (sn : Snapshot) (st : ℕ → ℕ) (used key : ℕ) (s : List ℕ) where
-  find-met : (p : ℕ) → p < used → (best : Best) {b : Best} {l : Bool} → find_leaf (page s p) p key sn st best ≡ LeafBest.Ok b l → BestMet s used best → BestMet s used b
+  find-met : (p : ℕ) → p < used → (best : Best) {b : Best} {l : Bool} → find_leaf (page s p) p key sn st best ≡ Ok (b, l) → BestMet s used best → BestMet s used b
   unfolding find_leaf
   find-met p low best {b} {l} e i = by_judged (judge_leaf (page s p) p) refl e
     where
       all : Best
       all = fold_cells (newest p key sn st) best (cells (page s p))
 
-      by_judged : (j : Judged) → judge_leaf (page s p) p ≡ j → on_judged (λ e. LeafBest.Ok all (has_larger key (cells (page s p)))) (λ f. LeafBest.Bad f) j ≡ LeafBest.Ok b l
+      by_judged : (j : Result ℕ Fault) → judge_leaf (page s p) p ≡ j → on_judged {A = Result (Best × Bool) Fault} (λ e. Ok (all, has_larger key (cells (page s p)))) (λ f. Err f) j ≡ Ok (b, l)
           → BestMet s used b
-      by_judged (Judged.Ok n) j q =
-          let u : all ≡ b = cc in
+      by_judged (Ok n) j q =
+          let t : ◌≡◌ {A = Best × Bool} (all, has_larger key (cells (page s p))) (b, l) = cc in
+          let u : all ≡ b = ap (λ (x : Best × Bool). x.0) t in
           subst (BestMet s used) u (fold-met s used p low j sn st key [] (cells (page s p)) best refl i)
-      by_judged (Judged.Bad f) j q = absurd (let z : ◌≡◌ {A = ℕ} 0 1 = cc in omega arith)
+      by_judged (Err f) j q = absurd (cc)
 
-  abbrev go : ℕ → Best → ℕ → Told Best
+  abbrev go : ℕ → Best → ℕ → Result Best Fault
   go m a p = along s used p (look_best key sn st) m a
 
-  along-met : (m : ℕ) (a : Best) (p : ℕ) {b : Best} → go m a p ≡ ok b → BestMet s used a → BestMet s used b
+  along-met : (m : ℕ) (a : Best) (p : ℕ) {b : Best} → go m a p ≡ Ok b → BestMet s used a → BestMet s used b
   unfolding along
-  along-met zero a p e i = absurd (let z : ◌≡◌ {A = ℕ} 0 1 = cc in omega arith)
+  along-met zero a p e i = absurd (cc)
   along-met (suc m) a p {b} e i = by_use (ltb p used) refl (λ d n q j. along-met m d n q j) e
     where
       next : ℕ
       next = next_leaf (page s p)
 
-      by_next : ((d : Best) (n : ℕ) → go m d n ≡ ok b → BestMet s used d → BestMet s used b) → (t : Bool) (d : Best) → BestMet s used d → pick t (ok d) (go m d next) ≡ ok b
+      by_next : ((d : Best) (n : ℕ) → go m d n ≡ Ok b → BestMet s used d → BestMet s used b) → (t : Bool) (d : Best) → BestMet s used d → pick t (Ok d) (go m d next) ≡ Ok b
           → BestMet s used b
       by_next ih true d j q = let u : d ≡ b = cc in subst (BestMet s used) u j
       by_next ih false d j q = ih d next q j
 
-      by_leaf : ((d : Best) (n : ℕ) → go m d n ≡ ok b → BestMet s used d → BestMet s used b) → p < used → (r : LeafBest) → find_leaf (page s p) p key sn st a ≡ r
-          → on_seen (λ d. ok d) (λ d. pick (eqb next 0) (ok d) (go m d next)) (λ f. ill f) (seen_best r) ≡ ok b → BestMet s used b
-      by_leaf ih h (LeafBest.Ok d true) f q = let u : d ≡ b = cc in subst (BestMet s used) u (find-met p h a f i)
-      by_leaf ih h (LeafBest.Ok d false) f q = by_next ih (eqb next 0) d (find-met p h a f i) q
-      by_leaf ih h (LeafBest.Bad g) f q = absurd (let z : ◌≡◌ {A = ℕ} 0 1 = cc in omega arith)
+      by_leaf : ((d : Best) (n : ℕ) → go m d n ≡ Ok b → BestMet s used d → BestMet s used b) → p < used → (r : Result (Best × Bool) Fault) → find_leaf (page s p) p key sn st a ≡ r
+          → on_seen (λ d. Ok d) (λ d. pick (eqb next 0) (Ok d) (go m d next)) (λ f. Err f) (seen_best r) ≡ Ok b → BestMet s used b
+      by_leaf ih h (Ok (d, true)) f q = let u : d ≡ b = cc in subst (BestMet s used) u (find-met p h a f i)
+      by_leaf ih h (Ok (d, false)) f q = by_next ih (eqb next 0) d (find-met p h a f i) q
+      by_leaf ih h (Err g) f q = absurd (cc)
 
-      by_use : (t : Bool) → ltb p used ≡ t → ((d : Best) (n : ℕ) → go m d n ≡ ok b → BestMet s used d → BestMet s used b)
-          → pick t (on_seen (λ d. ok d) (λ d. pick (eqb next 0) (ok d) (go m d next)) (λ f. ill f) (look_best key sn st a p (page s p))) (ill (structural p)) ≡ ok b
+      by_use : (t : Bool) → ltb p used ≡ t → ((d : Best) (n : ℕ) → go m d n ≡ Ok b → BestMet s used d → BestMet s used b)
+          → pick t (on_seen (λ d. Ok d) (λ d. pick (eqb next 0) (Ok d) (go m d next)) (λ f. Err f) (look_best key sn st a p (page s p))) (Err (structural p)) ≡ Ok b
           → BestMet s used b
       by_use true t ih q = by_leaf ih (ltb-true p used t) (find_leaf (page s p) p key sn st a) refl q
-      by_use false t ih q = absurd (let z : ◌≡◌ {A = ℕ} 0 1 = cc in omega arith)
+      by_use false t ih q = absurd (cc)
 
-  chain-met : (p : ℕ) {q : ℕ} {c : Cell} → best_along s used p key sn st ≡ ChainBest.Ok (Best.At q c) → CellMet used q c s
+  chain-met : (p : ℕ) {q : ℕ} {c : Cell} → best_along s used p key sn st ≡ Ok (Some (q, c)) → CellMet used q c s
   unfolding best_along
-  chain-met p {q} {c} e = by_told (go used Best.Nothing p) refl e
+  chain-met p {q} {c} e = by_told (go used None p) refl e
     where
-      by_told : (t : Told Best) → go used Best.Nothing p ≡ t → told_best t ≡ ChainBest.Ok (Best.At q c) → CellMet used q c s
-      by_told (ok b) f u = let v : b ≡ Best.At q c = cc in along-met used Best.Nothing p (f ∙ ap (λ (x : Best). ok x) v) tt
-      by_told (ill g) f u = absurd (let z : ◌≡◌ {A = ℕ} 0 1 = cc in omega arith)
+      by_told : (t : Result Best Fault) → go used None p ≡ t → t ≡ Ok (Some (q, c)) → CellMet used q c s
+      by_told (Ok b) f u = let v : b ≡ Some (q, c) = cc in along-met used None p (f ∙ ap (λ (x : Best). Ok x) v) tt
+      by_told (Err g) f u = absurd (cc)
 
-  pub best-met : (root : ℕ) {p : ℕ} {c : Cell} → best_in_tree s used root key sn st ≡ ChainBest.Ok (Best.At p c) → CellMet used p c s
+  pub best-met : (root : ℕ) {p : ℕ} {c : Cell} → best_in_tree s used root key sn st ≡ Ok (Some (p, c)) → CellMet used p c s
   unfolding best_in_tree
   best-met root {p} {c} e = by_way (descend_of s used root (Route.Search key) 3) e
     where
-      by_way : (d : Descent) → on_leaf (λ q. best_along s used q key sn st) (λ f. ChainBest.Bad f) d ≡ ChainBest.Ok (Best.At p c) → CellMet used p c s
-      by_way (Descent.Leaf q) u = chain-met q u
-      by_way (Descent.Bad f) u = absurd (let z : ◌≡◌ {A = ℕ} 0 1 = cc in omega arith)
+      by_way : (d : Result ℕ Fault) → on_leaf (λ q. best_along s used q key sn st) (λ f. Err f) d ≡ Ok (Some (p, c)) → CellMet used p c s
+      by_way (Ok q) u = chain-met q u
+      by_way (Err f) u = absurd (cc)
 
 -- ---- what stands beside it
 
@@ -162,7 +159,7 @@ module _ (pg : List ℕ) (at : ℕ) where
 -- the cell c of a leaf, with what stands beside it
 pub record Stands (pg : List ℕ) (c : Cell) (b : Beside) : Type 0 where
   pub kind : node_type pg ≡ 1
-  pub there : cell_at pg c.at ≡ CellRead.Got c
+  pub there : cell_at pg c.at ≡ Ok c
   pub first : List Cell
   pub rest : List Cell
   pub chain : Chain pg 12 first
@@ -177,15 +174,15 @@ pub record Stands (pg : List ℕ) (c : Cell) (b : Beside) : Type 0 where
   pub within : b.end ≤ 4096
   pub few : cell_count pg < 16384
 
-judged_kind : (p : ℕ) (pg : List ℕ) {e : ℕ} → judge_leaf pg p ≡ Judged.Ok e → node_type pg ≡ 1
+judged_kind : (p : ℕ) (pg : List ℕ) {e : ℕ} → judge_leaf pg p ≡ Ok e → node_type pg ≡ 1
 unfolding judge_leaf
 judged_kind p pg {e} j = by_type (eqb (node_type pg) 1) refl j
   where
-    by_type : (b : Bool) → eqb (node_type pg) 1 ≡ b → pick b (judge_cells pg p 0 0 (cell_count pg) 12) (Judged.Bad (structural p)) ≡ Judged.Ok e → node_type pg ≡ 1
+    by_type : (b : Bool) → eqb (node_type pg) 1 ≡ b → pick b (judge_cells pg p 0 0 (cell_count pg) 12) (Err (structural p)) ≡ Ok e → node_type pg ≡ 1
     by_type true t w = eqb-true (node_type pg) 1 t
-    by_type false t w = absurd (let z : ◌≡◌ {A = ℕ} 0 1 = cc in omega arith)
+    by_type false t w = absurd (cc)
 
-module _ (pg : List ℕ) (short : length pg ≤ 4096) (p e : ℕ) (judged : judge_leaf pg p ≡ Judged.Ok e) (xs : List Cell) (c : Cell) (ys : List Cell) (among : cells pg ≡ xs ++ (c ∷ ys)) where
+module _ (pg : List ℕ) (short : length pg ≤ 4096) (p e : ℕ) (judged : judge_leaf pg p ≡ Ok e) (xs : List Cell) (c : Cell) (ys : List Cell) (among : cells pg ≡ xs ++ (c ∷ ys)) where
   all_chain : Chain pg 12 (xs ++ (c ∷ ys))
   all_chain = subst (Chain pg 12) among (chain-cells pg (cell_count pg) 12)
 

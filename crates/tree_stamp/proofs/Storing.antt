@@ -1,5 +1,6 @@
 -- The stores of a stamp, as planned: where its leaf divides, what each call asks for and what all of them do; and where it
 -- fits, the one edit of its page. Assumes nothing.
+use Rattle.std.proofs.Common.{Some, None, Ok}
 use mathlib.Core.Path.{◌≡◌, sym, ◌∙◌}
 use mathlib.Core.Bool.{true, false}
 use mathlib.Core.List.{List}
@@ -18,13 +19,12 @@ use Rattle.page.specs.Key.{rank_at}
 use Rattle.page.specs.declared.pool.State.{State}
 use Rattle.page.specs.declared.pool.Allocated.{Allocated}
 use Rattle.row.specs.Write.{stamp_len, cell_bytes}
-use Rattle.row.specs.declared.Stamp.{Stamp}
 use Rattle.leaf_edit.specs.Edit.{with_stamp}
 use Rattle.leaf_divide.specs.Divide.{divided}
 use Rattle.tree_grow.specs.Path.{page_at, pages_above}
 use Rattle.tree_grow.specs.Grow.{settled}
 use Rattle.tree_grow.specs.Steps.Safe.{There, AboveSafe}
-use Rattle.tree_room.specs.Room.{planned, leaf_plan, room_of}
+use Rattle.tree_room.specs.Room.{leaf_plan, room_of}
 use Rattle.tree_room.specs.Up.{divided_up}
 use Rattle.tree_room.specs.declared.Planned.{Planned}
 use Rattle.tree_stamp.specs.Target.{target_of}
@@ -45,7 +45,7 @@ use Rattle.tree_stamp.proofs.Meeting.{Stands, target_stands}
 use Rattle.tree_stamp.proofs.Cutting.{cut_stands}
 
 module _ (s : List ℕ) (st : State) (t : Target) (plan : Planned) (d : ℕ) (good : good_pool s st ≡ true) (met : CellMet st.used t.leaf t.cell s)
-    (is : t ≡ target_of (page s t.leaf) t.leaf t.cell) (plans : stamp_plan s st t ≡ planned plan) where
+    (is : t ≡ target_of (page s t.leaf) t.leaf t.cell) (plans : stamp_plan s st t ≡ Ok plan) where
   abbrev pg : List ℕ
   pg = page s t.leaf
 
@@ -58,7 +58,7 @@ module _ (s : List ℕ) (st : State) (t : Target) (plan : Planned) (d : ℕ) (go
   pub leaf-long : length pg ≡ 4096
   leaf-long = length-page t.leaf s leaf-there
 
-  leaf-plans : leaf_plan s st t.leaf (ltb 4084 (bytes_stamped t)) (cut_stamped pg t) ≡ planned plan
+  leaf-plans : leaf_plan s st t.leaf (ltb 4084 (bytes_stamped t)) (cut_stamped pg t) ≡ Ok plan
   unfolding stamp_plan
   leaf-plans = plans
 
@@ -79,14 +79,14 @@ module _ (s : List ℕ) (st : State) (t : Target) (plan : Planned) (d : ℕ) (go
 
   -- ---- where it divides
 
-  module _ (over : plan.over ≡ true) (room : room_of (length s / 4096) st (bytes_stamped t) plan ≡ 0) where
+  module _ (over : plan.over ≡ true) (room : room_of (length s / 4096) st (bytes_stamped t) plan ≡ Ok tt) where
     overfull : 4084 < bytes_stamped t
     overfull = ltb-true 4084 (bytes_stamped t) (sym told.same ∙ over)
 
     cut_is : plan.cut ≡ cut_stamped pg t
     cut_is = told.at_cut (sym told.same ∙ over)
 
-    over_plans : leaf_plan s st t.leaf true (cut_stamped pg t) ≡ planned plan
+    over_plans : leaf_plan s st t.leaf true (cut_stamped pg t) ≡ Ok plan
     over_plans = rw (sym told.same ∙ over) at leaf-plans
 
     pub free_left : RoomLeft s st plan
@@ -114,16 +114,16 @@ module _ (s : List ℕ) (st : State) (t : Target) (plan : Planned) (d : ℕ) (go
       )
 
       module _ (B : AreBytes s) {u : List ℕ} (divides : u ≡ divided t.leaf a.page n plan.cut (spliced_stamp d t (page s₁ t.leaf)) s₁) where
-        live : t.cell.version.stamp ≡ Stamp.Absent
+        live : t.cell.version.stamp ≡ None
         live = (cut_there count).live
 
         abbrev new : List ℕ
-        new = cell_bytes t.cell.key t.cell.version.creator (Stamp.By d) t.cell.version.pointer (body_of t.cell pg)
+        new = cell_bytes t.cell.key t.cell.version.creator (Some d) t.cell.version.pointer (body_of t.cell pg)
 
         v_long : length (spliced_stamp d t pg) ≡ 12 + bytes_stamped t
         v_long =
             let ends = cell-ends t.cell pg (bytes-page t.leaf s B) stands.there live in
-            let l = length-cell t.cell.key t.cell.version.creator (Stamp.By d) t.cell.version.pointer (body_of t.cell pg) in
+            let l = length-cell t.cell.key t.cell.version.creator (Some d) t.cell.version.pointer (body_of t.cell pg) in
             let m : longer t.cell ≡ 8 = rw live in
             length-spliced t.cell.at t.cell.next t.beside.end new pg (omega (arith, stands.size)) stands.inside (omega (arith, leaf-long, stands.within))
             ∙ omega (arith, stands.low, stands.size, stands.inside)

@@ -4,14 +4,14 @@
 
 pub mod ready;
 
-ghost use Rattle.std.specs.Prelude.{◌≡◌, true, ◌+◌, ◌-◌, ◌*◌, ◌/◌, ◌≤◌, ◌<◌, length};
+ghost use Rattle.std.specs.Prelude.{◌≡◌, true, Ok, ◌+◌, ◌-◌, ◌*◌, ◌/◌, ◌≤◌, ◌<◌, length};
 ghost use Rattle.store.specs.Part.{zeros};
 ghost use Rattle.page.specs.Page.{page};
 ghost use Rattle.page.specs.Header.{cell_count};
 ghost use Rattle.page.specs.Pool.{good_pool, grown};
 ghost use Rattle.leaf.specs.Cells.{cells};
 ghost use Rattle.leaf_divide.specs.Divide.{divided};
-ghost use Rattle.tree_room.specs.Room.{planned, room_of};
+ghost use Rattle.tree_room.specs.Room.{room_of};
 ghost use Rattle.tree_room.specs.Up.{divided_up};
 ghost use Rattle.tree_stamp.specs.Target.{beside_of, target_of};
 ghost use Rattle.tree_stamp.specs.Steps.Target.{CellMet};
@@ -21,8 +21,8 @@ ghost use Rattle.tree_stamp.specs.Steps.Stamp.{StampCutStands};
 use leaf::place::Cut;
 use page::PAGE_SIZE;
 use page::pool::State;
-use row::{Cell, Stamp};
-use tree_room::{LeafPlan, Planned};
+use row::{Cell, Fault};
+use tree_room::Planned;
 
 // How many cells stand before a cell, and where all of them end.
 #[derive(Clone, Copy)]
@@ -43,19 +43,17 @@ fn beside_cell(pg: &[u8], at: usize) -> Beside
     requires { length pg.now ≡ 4096 }
     ensures { result ≡ beside_of at (cells pg.now) }
 {
-    let mut left = page::get_cell_count(pg) as usize;
+    let count = page::get_cell_count(pg);
     let mut before: usize = 0;
     let mut end: usize = page::HEADER_SIZE;
-    while 0 < left {
-        let next = row::read::cell_end(pg, end);
-        if next == 0 {
+    for _ in 0..count {
+        let Some(next) = row::read::cell_end(pg, end) else {
             return Beside { before, end };
-        }
+        };
         if end < at {
             before += 1;
         }
         end = next;
-        left -= 1;
     }
     Beside { before, end }
 }
@@ -65,22 +63,19 @@ pub fn target_at(pool: &[u8], p: u32, c: Cell) -> Target
     requires { p * 4096 + 4096 ≤ length pool.now }
     ensures { result ≡ target_of (page pool.now p) p c }
 {
-    let beside = beside_cell(page::pool::page_of(pool, p), c.at);
     Target {
         leaf: p,
         cell: c,
-        beside,
+        beside: beside_cell(page::pool::page_of(pool, p), c.at),
     }
 }
 
 fn longer_by(c: Cell) -> usize
     ensures { result ≡ longer c }
 {
-    let v = c.version;
-    let stamp = v.stamp;
-    match stamp {
-        Stamp::Absent => 8,
-        Stamp::By(_) => 0,
+    match c.version.stamp {
+        None => 8,
+        Some(_) => 0,
     }
 }
 
@@ -89,8 +84,7 @@ pub fn bytes_stamped(t: Target) -> usize
     requires { (12 ≤ t.beside.end) × (t.beside.end ≤ 4096) }
     ensures { result ≡ bytes_stamped t }
 {
-    let beside = t.beside;
-    beside.end - page::HEADER_SIZE + longer_by(t.cell)
+    t.beside.end - page::HEADER_SIZE + longer_by(t.cell)
 }
 
 fn cut_at(pool: &[u8], t: Target) -> Cut
@@ -99,15 +93,15 @@ fn cut_at(pool: &[u8], t: Target) -> Cut
 {
     let pg = page::pool::page_of(pool, t.leaf);
     let c = t.cell;
-    let beside = t.beside;
-    let before = beside.before;
+    let before = t.beside.before;
     let after = page::get_cell_count(pg) as usize - (before + 1);
     let m = c.next - c.at + longer_by(c);
     leaf::place::cut_leaf(pg, bytes_stamped(t), before, c.next, after, m)
 }
 
 // What stamping it would take.
-pub fn plan_stamp(pool: &[u8], st: State, t: Target) -> LeafPlan
+#[tactic(auto, using(tree_room::proofs::Rooming::plan_uncut), unfolding(crate::specs::Stamp::stamp_plan))]
+pub fn plan_stamp(pool: &[u8], st: State, t: Target) -> Result<Planned, Fault>
     requires { (st.used * 4096 ≤ length pool.now) × CellMet st.used t.leaf t.cell pool.now × (t ≡ target_of (page pool.now t.leaf) t.leaf t.cell) }
     ensures { result ≡ stamp_plan pool.now st t }
 {
@@ -123,48 +117,38 @@ fn divide_at(pool: &mut [u8], t: Target, q: u32, n: usize, cut: Cut, d: u64)
     requires { (t.leaf < q) × (q * 4096 + 4096 ≤ length pool.old) × (page pool.old q ≡ zeros 4096) × StampCutStands t n cut (page pool.old t.leaf) }
     ensures { pool.new ≡ divided t.leaf q n cut (spliced_stamp d t (page pool.old t.leaf)) pool.old }
 {
-    let p = t.leaf;
-    let c = t.cell;
-    let beside = t.beside;
-    let e = beside.end;
-    if cut.cells <= beside.before {
-        leaf_divide::stamp_divide_right(pool, p, q, e, n, cut, c, d);
+    let end = t.beside.end;
+    if cut.cells <= t.beside.before {
+        leaf_divide::stamp_divide_right(pool, t.leaf, q, end, n, cut, t.cell, d);
     } else {
-        leaf_divide::stamp_divide_left(pool, p, q, e, n, cut, c, d);
+        leaf_divide::stamp_divide_left(pool, t.leaf, q, end, n, cut, t.cell, d);
     }
 }
 
 fn store_divided(pool: &mut [u8], st: State, t: Target, plan: Planned, n: usize, d: u64) -> State
     requires st_value { (good_pool pool.old st ≡ true) × (n ≡ cell_count (page pool.old t.leaf)) × (plan.over ≡ true) }
     requires cell_met { CellMet st.used t.leaf t.cell pool.old × (t ≡ target_of (page pool.old t.leaf) t.leaf t.cell) }
-    requires t_value { (stamp_plan pool.old st t ≡ planned plan) × (room_of (length pool.old / 4096) st (bytes_stamped t) plan ≡ 0) }
+    requires t_value { (stamp_plan pool.old st t ≡ Ok plan) × (room_of (length pool.old / 4096) st (bytes_stamped t) plan ≡ Ok tt) }
     ensures { grown pool.new result ≡ divided_up plan t.leaf n (spliced_stamp d t (page pool.old t.leaf)) (grown pool.old st) }
 {
-    let a = page::pool::allocate(pool, st);
-    let q = a.page;
-    let after = a.state;
-    let path = plan.path;
-    let cut = plan.cut;
-    divide_at(pool, t, q, n, cut, d);
-    tree_grow::settle(pool, after, path, q)
+    let fresh = page::pool::allocate(pool, st);
+    divide_at(pool, t, fresh.page, n, plan.cut, d);
+    tree_grow::settle(pool, fresh.state, plan.path, fresh.page)
 }
 
 // The stamp of d, as planned.
 pub fn store_stamp(pool: &mut [u8], st: State, t: Target, plan: Planned, d: u64) -> State
     requires st_value { good_pool pool.old st ≡ true }
     requires cell_met { CellMet st.used t.leaf t.cell pool.old × (t ≡ target_of (page pool.old t.leaf) t.leaf t.cell) }
-    requires t_value { (stamp_plan pool.old st t ≡ planned plan) × (room_of (length pool.old / 4096) st (bytes_stamped t) plan ≡ 0) }
+    requires t_value { (stamp_plan pool.old st t ≡ Ok plan) × (room_of (length pool.old / 4096) st (bytes_stamped t) plan ≡ Ok tt) }
     ensures { grown pool.new result ≡ stamped_at d t plan (grown pool.old st) }
 {
-    let p = t.leaf;
-    let n = page::get_cell_count(page::pool::page_of(pool, p)) as usize;
     if plan.over {
+        let n = page::get_cell_count(page::pool::page_of(pool, t.leaf)) as usize;
         return store_divided(pool, st, t, plan, n, d);
     }
-    let beside = t.beside;
-    let e = beside.end;
-    let a = p as usize * PAGE_SIZE;
-    let z = a + PAGE_SIZE;
-    leaf_edit::stamp_cell(&mut pool[a..z], e, t.cell, d);
+    let start = t.leaf as usize * PAGE_SIZE;
+    let pg = &mut pool[start..start + PAGE_SIZE];
+    leaf_edit::stamp_cell(pg, t.beside.end, t.cell, d);
     st
 }

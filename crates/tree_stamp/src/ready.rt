@@ -2,107 +2,41 @@
 ghost use Rattle.std.specs.Prelude.{◌≡◌, true};
 ghost use Rattle.page.specs.Page.{page};
 ghost use Rattle.page.specs.Pool.{good_pool};
-ghost use Rattle.row.specs.Fault.{no_fault};
 ghost use Rattle.tree_stamp.specs.Target.{target_of};
 ghost use Rattle.tree_stamp.specs.Steps.Target.{CellMet};
-ghost use Rattle.tree_stamp.specs.Ready.{not_marking, marking_by_room, marking_at};
+ghost use Rattle.tree_stamp.specs.Ready.{marking_at};
 
-use crate::{Beside, Target};
-use call_answers::{BAD_TREE, CONFLICT};
+use crate::Target;
+use call_answers::{Refusal, Refused};
 use page::PAGE_SIZE;
 use page::pool::State;
-use row::{Cell, Fault, Pointer, Stamp, Version};
-use tree::ChainTest;
-use tree::climb::Path;
+use row::Fault;
 use tree_room::Planned;
 
-// Where it is ok, the target can be stamped by that plan; otherwise the number of the refusal, and the fault behind a
-// BadTree.
+// What can be stamped, and the plan by which it can.
 #[derive(Clone, Copy)]
 pub struct Marking {
-    pub ok: bool,
-    pub number: u8,
-    pub fault: Fault,
     pub target: Target,
     pub plan: Planned,
 }
 
-// A refusal by its number, with the fault behind a BadTree.
-pub fn refused_by(number: u8, fault: Fault) -> Marking
-    ensures { result ≡ not_marking number fault }
-{
-    let version = Version {
-        creator: 0,
-        stamp: Stamp::Absent,
-        pointer: Pointer::Absent,
-        start: 0,
-        len: 0,
-    };
-    Marking {
-        ok: false,
-        number,
-        fault,
-        target: Target {
-            leaf: 0,
-            cell: Cell {
-                key: 0,
-                at: 0,
-                next: 0,
-                version,
-            },
-            beside: Beside { before: 0, end: 0 },
-        },
-        plan: tree_room::fits_as(Path {
-            pages: [0u32; 4],
-            len: 0,
-        }),
-    }
-}
-
-// A refusal by its number, without a fault.
-pub fn refused(number: u8) -> Marking
-    ensures { result ≡ not_marking number no_fault }
-{
-    refused_by(number, row::NO_FAULT)
-}
-
-fn by_room(t: Target, plan: Planned, n: u8) -> Marking
-    ensures { result ≡ marking_by_room t plan n }
-{
-    if n == 0 {
-        return Marking {
-            ok: true,
-            number: 0,
-            fault: row::NO_FAULT,
-            target: t,
-            plan,
-        };
-    }
-    refused(n)
-}
-
 // The target is found; test is what the conflict test says of it.
-pub fn marking_at(pool: &[u8], st: State, test: ChainTest, t: Target) -> Marking
-    requires { (good_pool pool.now st ≡ true) × CellMet st.used t.leaf t.cell pool.now × (t ≡ target_of (page pool.now t.leaf) t.leaf t.cell) }
-    ensures { result ≡ marking_at pool.now st test t }
+#[tactic(auto, using(page::proofs::PoolLaws::pool_room), unfolding(crate::specs::Ready::marking_at))]
+pub fn marking_at(
+    pool: &[u8],
+    st: State,
+    test: Result<bool, Fault>,
+    target: Target,
+) -> Result<Marking, Refused>
+    requires { (good_pool pool.now st ≡ true) × CellMet st.used target.leaf target.cell pool.now × (target ≡ target_of (page pool.now target.leaf) target.leaf target.cell) }
+    ensures { result ≡ marking_at pool.now st test target }
 {
-    let told = crate::plan_stamp(pool, st, t);
-    let plan = told.plan;
-    if !told.ok {
-        return refused_by(BAD_TREE, told.fault);
+    let plan = crate::plan_stamp(pool, st, target)?;
+    let conflict = test?;
+    if conflict {
+        return Err(Refusal::Conflict.into());
     }
-    match test {
-        ChainTest::Bad(f) => refused_by(BAD_TREE, f),
-        ChainTest::Ok(conflict) => {
-            if conflict {
-                return refused(CONFLICT);
-            }
-            let pages = pool.len() / PAGE_SIZE;
-            by_room(
-                t,
-                plan,
-                tree_room::refusal(pages, st, crate::bytes_stamped(t), plan),
-            )
-        }
-    }
+    let pages = pool.len() / PAGE_SIZE;
+    tree_room::judge_room(pages, st, crate::bytes_stamped(target), plan)?;
+    Ok(Marking { target, plan })
 }

@@ -1,10 +1,9 @@
--- `call_stamp::mark_at` meets its contract. Assumes nothing.
+-- `call_stamp::mark_at` meets its contract: what is ready can be stored. Assumes nothing.
+use mathlib.Core.Path.{sym, ◌∙◌}
 use Rattle.call_stamp.proofs.Stamping.{mark-ok}
-use Rattle.call_stamp.proofs.Calls.{mark-run}
 use Rattle.call_stamp.proofs.mark_at.Goals as goal
 
-pub mark-requires : goal.mark-requires
-mark-requires c = λ h. mark-ok _ _ _ _ _ _ c.mark_ready-told.ensures h
-
-pub returns : goal.returns
-returns c = mark-run _ _ _ _ _ _ c.mark_ready-told.ensures c.mark.ensures
+pub store_stamp-requires : goal.store_stamp-requires
+store_stamp-requires c =
+    let ready = mark-ok _ _ _ _ _ _ (sym c.mark_ready.ensures ∙ c.in_ok-marking.was) in
+    record { st_value = ready.pool; cell_met = (ready.met, ready.is); t_value = (ready.plans, ready.fits) }

@@ -1,13 +1,7 @@
--- `inner::child_place` meets its contract: the place in what is left, counted on from i, is the place in the whole.
--- Assumes nothing.
-use mathlib.Core.Path.{◌≡◌}
-use Prim.Native.Nat.{◌+◌, ◌-◌, ◌≤◌}
-use Rattle.inner.specs.Inner.{children_from}
-use Rattle.inner.specs.Route.{child_place}
+-- `inner::child_place` meets its contract. Invariant: none of the children so far is the one. Assumes nothing.
+use Rattle.std.proofs.Common.{◌≡◌, ℕ, ◌<◌}
+use Rattle.inner.specs.Inner.{child_at}
 use Rattle.inner.proofs.child_place.Given as goal
 
 abbrev pub invariant-loop-i : goal.invariant-loop-i
-invariant-loop-i l = (l.i ≤ l.n) × (child_place l.child (children_from l.pg 0 l.n) ≡ l.i + child_place l.child (children_from l.pg l.i (l.n - l.i)))
-
-abbrev pub decreases-loop-i : goal.decreases-loop-i
-decreases-loop-i l = l.n - l.i
+invariant-loop-i l = (k : ℕ) → k < l.i → child_at l.pg k ≡ l.child → ⊥

@@ -1,14 +1,13 @@
 -- `inner::judge_inner` meets its contract: each way out is one law of Routing. Assumes nothing.
+use Rattle.std.proofs.Common.{ℕ, Result, Err, rules}
 use mathlib.Core.Path.{◌≡◌, ap, ◌∙◌}
 use native.Mathlib.Omega.{arith}
 use Rattle.row.specs.declared.Fault.{Fault}
-use Rattle.inner.specs.declared.InnerJudged.{InnerJudged}
 use Rattle.inner.proofs.Routing.{judge_kind, judge_none, judge_many, judge_ok, judge_falls}
-use Rattle.std.proofs.Common.{rules}
 use Rattle.inner.proofs.judge_inner.Goals as goal
 
-bad-is : {f g : Fault} → f ≡ g → InnerJudged.Bad f ≡ InnerJudged.Bad g
-bad-is e = ap InnerJudged.Bad e
+bad-is : {f g : Fault} → f ≡ g → ◌≡◌ {A = Result ℕ Fault} (Err f) (Err g)
+bad-is e = ap (λ (x : Fault). Err x) e
 
 pub returns-then-get_node_type-ne-NODE_INTERNAL : goal.returns-then-get_node_type-ne-NODE_INTERNAL
 returns-then-get_node_type-ne-NODE_INTERNAL c = bad-is c.structural_fault-bad.ensures ∙ judge_kind _ _ (λ e. omega arith)

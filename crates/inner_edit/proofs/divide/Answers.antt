@@ -6,9 +6,6 @@ use Rattle.inner_edit.proofs.Dividing.{right_beside, divide-done}
 use Rattle.std.proofs.Common.{rules}
 use Rattle.inner_edit.proofs.divide.Goals as goal
 
-pub middle_key-middle-requires : goal.middle_key-middle-requires
-middle_key-middle-requires c = (omega arith, omega arith, rw c.page_of.ensures.0 (search rules))
-
 pub left_half-requires : goal.left_half-requires
 left_half-requires c =
     let a = c.args in

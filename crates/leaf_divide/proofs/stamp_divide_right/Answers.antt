@@ -28,12 +28,6 @@ grow_stamp-requires c =
     let w = cell_placed (page c.args.pool.now c.args.p) c.args.c.at c.args.c c.requires.at_value.0 in
     search rules
 
-pub overflow_sub-n : goal.overflow_sub-n
-overflow_sub-n c = omega (arith, c.requires.bytes_bound)
-
-pub link_leaves-requires : goal.link_leaves-requires
-link_leaves-requires c = omega (arith, c.requires.bytes_bound)
-
 pub returns : goal.returns
 returns c =
     let w = cell_placed (page c.args.pool.now c.args.p) c.args.c.at c.args.c c.requires.at_value.0 in

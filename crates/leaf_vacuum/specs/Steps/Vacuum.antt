@@ -1,9 +1,8 @@
 -- How the code vacuums a leaf: cell by cell in place, each drop moving the tail.
-use Rattle.std.specs.Prelude.{Bool, true, List, ℕ, zero, suc, ◌+◌, ◌-◌}
+use Rattle.std.specs.Prelude.{Bool, true, List, ℕ, zero, suc, ◌+◌, ◌-◌, None}
 use Rattle.store.specs.Part.{part, pad, spliced}
 use Rattle.row.specs.Read.{cell_at}
 use Rattle.row.specs.Write.{cell_bytes}
-use Rattle.row.specs.declared.Stamp.{Stamp}
 use Rattle.row.specs.declared.Cell.{Cell}
 use Rattle.mvcc.specs.Vacuum.{fate}
 use Rattle.leaf.specs.Cells.{on_cell}
@@ -15,7 +14,7 @@ unfoldable pub without_stamp : (e : ℕ) → Cell → List ℕ → List ℕ
 without_stamp e c pg =
     pad 4096
     (spliced c.at c.next e
-    (cell_bytes c.key c.version.creator Stamp.Absent c.version.pointer (part c.version.start c.version.len pg))
+    (cell_bytes c.key c.version.creator None c.version.pointer (part c.version.start c.version.len pg))
     pg)
 
 -- n cells from `at` on are left to look at, of k cells that end at e; so far d went

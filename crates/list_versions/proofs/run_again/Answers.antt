@@ -4,8 +4,8 @@ use Rattle.list_versions.proofs.run_again.Goals as goal
 pub returns-in-All : goal.returns-in-All
 returns-in-All c = rw (c.in-All.is, c.get_cell_count.ensures)
 
-pub returns-in-Bad : goal.returns-in-Bad
-returns-in-Bad c = rw (c.in-Key.is, ← c.run_in_leaf.ensures, c.in-Bad.is)
+pub returns-in-Err : goal.returns-in-Err
+returns-in-Err c = rw (c.in-Key.is, ← c.run_in_leaf.ensures, c.in-Err.is)
 
 pub returns-in-Ok : goal.returns-in-Ok
 returns-in-Ok c = rw (c.in-Key.is, ← c.run_in_leaf.ensures, c.in-Ok.is)

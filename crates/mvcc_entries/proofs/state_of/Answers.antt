@@ -1,17 +1,13 @@
--- `mvcc_entries::state_of` meets its contract: what the entry at the place that `seek` finds says, and nothing past the
--- last one. Assumes nothing.
-use mathlib.Core.Path.{ap, ◌∙◌}
-use mathlib.Core.List.{[], ◌∷◌}
-use Rattle.mvcc.specs.Snapshot.{lookup, statuses}
+-- `mvcc_entries::state_of` meets its contract: the search finds the entry of tx, or there is none.
+-- Assumes nothing.
+use Rattle.std.proofs.Common.{rules}
+use Rattle.std.proofs.lemmas.List.Sorted.{answers_always}
 use Rattle.mvcc_entries.specs.declared.Entry.{Entry}
-use Rattle.mvcc_entries.proofs.Laws.{past, here}
+use Rattle.mvcc_entries.proofs.Laws.{state_found, state_missing}
 use Rattle.mvcc_entries.proofs.state_of.Goals as goal
 
-pub returns-then-i-es : goal.returns-then-i-es
-returns-then-i-es c =
-    c.settled.ensures
-    ∙ (ap (λ (e : Entry). lookup (statuses (e.tx ∷ []) (e.state ∷ [])) c.args.tx) c.entry_at.ensures
-    ∙ here c.args.es.now c.args.tx _ c.requires c.seek-i.ensures c.if-i-es.true)
+pub returns-in-Ok : goal.returns-in-Ok
+returns-in-Ok c = state_found _ _ c.requires _ (c.in-Ok.ensures.position (λ (e : Entry). e.tx) (answers_always _ _ _ (λ f a r g k. search rules)))
 
-pub returns : goal.returns
-returns c = past c.args.es.now c.args.tx _ c.requires c.seek-i.ensures c.if-i-es.false
+pub returns-in-Err : goal.returns-in-Err
+returns-in-Err c = state_missing _ _ c.requires _ (c.in-Err.ensures.position (λ (e : Entry). e.tx) (answers_always _ _ _ (λ f a r g k. search rules)))

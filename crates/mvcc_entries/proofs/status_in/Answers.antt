@@ -3,16 +3,9 @@ use mathlib.Core.Path.{sym, ◌∙◌}
 use Rattle.mvcc.specs.Snapshot.{statuses}
 use Rattle.mvcc.proofs.Laws.{good-statuses-judged}
 use Rattle.mvcc_entries.specs.Entries.{txs, sts}
-use Rattle.mvcc_entries.proofs.Laws.{status_good, status_bad}
 use Rattle.mvcc_entries.proofs.status_in.Goals as goal
 
 pub state_of-requires : goal.state_of-requires
 state_of-requires c =
     let es = c.args.es.now in
     (good-statuses-judged (statuses (txs es) (sts es)) (sym c.entries_are_good.ensures ∙ c.if-entries_are_good.true)).rises
-
-pub returns-then-entries_are_good : goal.returns-then-entries_are_good
-returns-then-entries_are_good c = c.state_of.ensures ∙ status_good _ _ (sym c.entries_are_good.ensures ∙ c.if-entries_are_good.true)
-
-pub returns : goal.returns
-returns c = status_bad _ _ (sym c.entries_are_good.ensures ∙ c.if-entries_are_good.false)

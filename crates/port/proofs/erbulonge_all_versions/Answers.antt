@@ -3,4 +3,4 @@ use Rattle.port.proofs.Giving.{passed_list}
 use Rattle.port.proofs.erbulonge_all_versions.Goals as goal
 
 pub returns : goal.returns
-returns c = passed_list _ c.give_counted.ensures c.all_versions.ensures
+returns c = passed_list _ c.give.ensures c.all_versions.ensures

@@ -4,4 +4,4 @@ use Rattle.port.specs.Words.{flag_words}
 use Rattle.port.proofs.erbulonge_check.Goals as goal
 
 pub returns : goal.returns
-returns c = passed flag_words _ c.give_yes_no.ensures c.check.ensures
+returns c = passed flag_words _ c.give.ensures c.check.ensures

@@ -4,4 +4,4 @@ use Rattle.port.specs.Words.{state_words}
 use Rattle.port.proofs.erbulonge_create.Goals as goal
 
 pub returns : goal.returns
-returns c = passed-pool state_words _ c.give_stated.ensures c.create.ensures
+returns c = passed-pool state_words _ c.give.ensures c.create.ensures

@@ -3,4 +3,4 @@ use Rattle.port.proofs.Giving.{passed_list}
 use Rattle.port.proofs.erbulonge_page_numbers.Goals as goal
 
 pub returns : goal.returns
-returns c = passed_list _ c.give_counted.ensures c.page_numbers.ensures
+returns c = passed_list _ c.give.ensures c.page_numbers.ensures

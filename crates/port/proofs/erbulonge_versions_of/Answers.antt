@@ -6,4 +6,4 @@ use Rattle.port.proofs.Giving.{passed_list, versions_asked}
 use Rattle.port.proofs.erbulonge_versions_of.Goals as goal
 
 pub returns : goal.returns
-returns c = passed_list _ c.give_counted.ensures (c.versions_of.ensures ∙ versions_asked _ _ _ (ap rank_of (to_z-of_z c.ranges.key)))
+returns c = passed_list _ c.give.ensures (c.versions_of.ensures ∙ versions_asked _ _ _ (ap rank_of (to_z-of_z c.ranges.key)))

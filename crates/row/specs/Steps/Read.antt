@@ -1,20 +1,16 @@
 -- What the reader's own steps answer: the head of a payload, and where a cell ends.
-use Rattle.std.specs.Prelude.{List, ℕ, zero, suc}
-use Rattle.row.specs.declared.read.HeadRead.{HeadRead}
-use Rattle.row.specs.declared.read.CellRead.{CellRead}
-use Rattle.row.specs.Read.{pointer_place, data_place, head_fault, cell_at}
+use Rattle.std.specs.Prelude.{List, ℕ, Option, Some, None, Result, Ok, Err}
+use Rattle.row.specs.declared.Cell.{Cell}
+use Rattle.row.specs.declared.CellFault.{CellFault}
+use Rattle.row.specs.Read.{pointer_place, data_place, head_fault, or_fault, cell_at}
 
-abbrev pub or_head : ℕ → HeadRead → HeadRead
-or_head zero h = h
-or_head (suc k) h = HeadRead.Bad (suc k)
+unfoldable pub head_at : List ℕ → (i m : ℕ) → Result (ℕ × ℕ) CellFault
+head_at s i m = or_fault (head_fault s i m) (Ok (pointer_place s i, data_place s i))
 
-unfoldable pub head_at : List ℕ → (i m : ℕ) → HeadRead
-head_at s i m = or_head (head_fault s i m) (HeadRead.Got (pointer_place s i) (data_place s i))
+-- where the cell at an offset ends, if there is one
+abbrev pub end_of : Result Cell CellFault → Option ℕ
+end_of (Ok c) = Some c.next
+end_of (Err kind) = None
 
--- where the cell at an offset ends; 0 for none
-abbrev pub end_of : CellRead → ℕ
-end_of (CellRead.Got c) = c.next
-end_of (CellRead.Bad kind) = 0
-
-unfoldable pub end_at : List ℕ → ℕ → ℕ
+unfoldable pub end_at : List ℕ → ℕ → Option ℕ
 end_at s at = end_of (cell_at s at)

@@ -1,6 +1,7 @@
 -- `store::get64` meets its contract. Assumes nothing.
-use Rattle.store.proofs.LeLaws.{le_at_add}
+use mathlib.Core.Path.{◌∙◌}
+use Rattle.store.proofs.LeBytesLaws.{number_lent}
 use Rattle.store.proofs.get64.Goals as goal
 
 pub returns : goal.returns
-returns c = rw (le_at_add 4 4) (cc)
+returns c = c.from_le_bytes.ensures ∙ number_lent 7 _ _ (rw c.unwrap.ensures at c.try_into.ensures.1).same

@@ -1,6 +1,7 @@
 -- `store::put64` meets its contract. Assumes nothing.
-use Rattle.store.proofs.LeLaws.{put_at-two}
+use mathlib.Core.Path.{◌∙◌}
+use Rattle.store.proofs.LeBytesLaws.{number_back}
 use Rattle.store.proofs.put64.Goals as goal
 
 pub returns : goal.returns
-returns c = rw (put_at-two 4 4) (cc)
+returns c = number_back 8 _ _ _ c.requires (c.copy_from_slice.ensures.after ∙ c.to_le_bytes.ensures)

@@ -1,9 +1,10 @@
--- `test_cells::replay` is safe and ends: each turn passes a line, and neither count is above the offset.
-use Rattle.std.proofs.Common.{◌-◌, ◌≤◌, length}
+-- `test_cells::replay` is safe: neither count is above the bytes that are passed.
+use Rattle.std.proofs.Common.{◌+◌, ◌≤◌, length}
 use Rattle.test_cells.proofs.replay.Given as goal
 
-abbrev pub invariant-loop-at : goal.invariant-loop-at
-invariant-loop-at g l = (l.cases ≤ l.at) × (l.differ ≤ l.at)
-
-abbrev pub decreases-loop-at : goal.decreases-loop-at
-decreases-loop-at g l = length l.s - l.at
+abbrev pub invariant-loop-line : goal.invariant-loop-line
+invariant-loop-line g l =
+    (goal.iterator-loop-line g).can_next l.line-iterator
+    × (goal.iterator-loop-line g).is_finite l.line-iterator
+    × (l.cases + (goal.iterator-loop-line g).remaining l.line-iterator ≤ length l.list)
+    × (l.differ ≤ l.cases)

@@ -72,30 +72,30 @@ insert_in_parent-returns t c =
     let place = c.child_place-i.ensures.0 in
     c.split_internal.ensures ∙ enter_over _ _ _ _ _ _ _ _ more of count place (omega arith) c.adopt_one.ensures
 
-pub split_internal-allocate-a-requires : goal.split_internal-allocate-a-requires
-split_internal-allocate-a-requires t c = halved_free _ _ _ _ _ _ c.requires.2.0
+pub split_internal-allocate-fresh-requires : goal.split_internal-allocate-fresh-requires
+split_internal-allocate-fresh-requires t c = halved_free _ _ _ _ _ _ c.requires.2.0
 
 pub split_internal-divide-middle-requires : goal.split_internal-divide-middle-requires
 split_internal-divide-middle-requires t c =
-    let fresh = c.allocate-a.ensures in
+    let fresh = c.allocate-fresh.ensures in
     let h = halved_asks _ _ _ _ _ _ c.requires.2.0 fresh.value fresh.pool_after in
     let f = halved_free _ _ _ _ _ _ c.requires.2.0 in
     (h.0, omega (arith, alloc_page _ _ fresh.value), h.1, h.2)
 
 pub split_internal-adopt-requires : goal.split_internal-adopt-requires
 split_internal-adopt-requires t c =
-    let fresh = c.allocate-a.ensures in
+    let fresh = c.allocate-fresh.ensures in
     let f = halved_free _ _ _ _ _ _ c.requires.2.0 in
     (omega arith, omega (arith, alloc_page _ _ fresh.value), halved_adopts _ _ _ _ _ _ c.requires.2.0 fresh.value fresh.pool_after c.divide-middle.ensures.pool_after)
 
 pub split_internal-insert_in_parent-requires : goal.split_internal-insert_in_parent-requires
 split_internal-insert_in_parent-requires t c =
-    let fresh = c.allocate-a.ensures in
+    let fresh = c.allocate-fresh.ensures in
     let cut = c.divide-middle.ensures in
     (omega arith, (omega arith, omega arith, halved-enters _ _ _ _ _ _ c.requires.2.0 fresh.value fresh.pool_after cut.pool_after cut.value c.adopt.ensures _ c.requires.2.1))
 
 pub split_internal-returns : goal.split_internal-returns
 split_internal-returns t c =
-    let fresh = c.allocate-a.ensures in
+    let fresh = c.allocate-fresh.ensures in
     let cut = c.divide-middle.ensures in
     c.insert_in_parent.ensures ∙ halved-done _ _ _ _ _ _ c.requires.2.0 fresh.value fresh.pool_after cut.pool_after cut.value c.adopt.ensures _

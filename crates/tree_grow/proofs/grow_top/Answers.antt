@@ -5,7 +5,7 @@ use Rattle.tree_grow.proofs.Entering.{top_done}
 use Rattle.tree_grow.proofs.grow_top.Goals as goal
 
 pub slice_bounds-write_top-end : goal.slice_bounds-write_top-end
-slice_bounds-write_top-end c = omega (arith, alloc_page _ _ c.allocate-a.ensures.value)
+slice_bounds-write_top-end c = omega (arith, alloc_page _ _ c.allocate-fresh.ensures.value)
 
 pub returns : goal.returns
-returns c = top_done _ _ c.allocate-a.ensures.value _ _ _ c.allocate-a.ensures.pool_after c.write_top.ensures c.link_both.ensures
+returns c = top_done _ _ c.allocate-fresh.ensures.value _ _ _ c.allocate-fresh.ensures.pool_after c.write_top.ensures c.link_both.ensures

@@ -1,6 +1,6 @@
 -- What a plan is good for: where it finds every child in use and the pages it asks for are left, each store above the
 -- division is inside the pool. This is why the writing calls judge before the first store and need no `requires`.
-use Rattle.std.specs.Prelude.{◌≡◌, List, ◌∷◌, ℕ, ◌+◌, ◌*◌, ◌≤◌, ◌<◌, length}
+use Rattle.std.specs.Prelude.{Ok, ◌≡◌, List, ◌∷◌, ℕ, ◌+◌, ◌*◌, ◌≤◌, ◌<◌, length}
 use Rattle.page.specs.Page.{page}
 use Rattle.page.specs.Header.{node_type}
 use Rattle.page.specs.declared.pool.State.{State}
@@ -8,7 +8,6 @@ use Rattle.tree.specs.Climb.{up, climb_of}
 use Rattle.page.specs.Pool.{Grown}
 use Rattle.tree_grow.specs.Steps.Safe.{Stands, AboveSafe}
 use Rattle.tree_grow.specs.Plan.{division_of, pages_asked, plan_of}
-use Rattle.tree_grow.specs.declared.plan.Plan.{Plan}
 
 -- what a climb from a leaf finds
 abbrev pub ClimbStands : Type 0
@@ -30,5 +29,5 @@ Room asked g = (g.state.used + asked ≤ 65536) × ((g.state.used + asked) * 409
 abbrev pub PlanIsSafe : Type 0
 PlanIsSafe =
     (s : List ℕ) (st : State) (p sep : ℕ) (ps : List ℕ) (g : Grown) → p < st.used → node_type (page s p) ≡ 1
-    → climb_of s st.used st.root p 3 ≡ up (p ∷ ps) → plan_of s st.used p ps ≡ Plan.Ok (division_of ps s)
+    → climb_of s st.used st.root p 3 ≡ up (p ∷ ps) → plan_of s st.used p ps ≡ Ok (division_of ps s)
     → LeafDivided s st p g → Room (pages_asked st.root (division_of ps s)) g → AboveSafe st.root p sep st.used ps g

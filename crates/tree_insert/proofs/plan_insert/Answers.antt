@@ -1,7 +1,6 @@
 -- `tree_insert::plan_insert` meets its contract: the spot's leaf is in use and cut within a page. Assumes nothing.
 use native.Mathlib.Omega.{arith}
 use Rattle.tree_insert.proofs.Spotting.{spot_is}
-use Rattle.tree_insert.proofs.Planning.{insert_over, insert-fits}
 use Rattle.std.proofs.Common.{rules}
 use Rattle.tree_insert.proofs.plan_insert.Goals as goal
 
@@ -25,13 +24,7 @@ plan_leaf-requires c =
     let is = spot_is _ _ _ _ _ _ (λ i. search rules) c.requires.0 c.requires.2 in
     (c.requires.0, is.in_use)
 
-pub returns-then-over : goal.returns-then-over
-returns-then-over c = insert_over _ _ _ _ (search rules) c.cut_at-cut.ensures c.plan_leaf.ensures
-
 pub plan_leaf-requires-2 : goal.plan_leaf-requires-2
 plan_leaf-requires-2 c =
     let is = spot_is _ _ _ _ _ _ (λ i. search rules) c.requires.0 c.requires.2 in
     (c.requires.0, is.in_use)
-
-pub returns : goal.returns
-returns c = insert-fits _ _ _ _ _ (search rules) c.plan_leaf-2.ensures

@@ -1,7 +1,6 @@
 -- `tree_stamp::plan_stamp` meets its contract: the leaf is in use and cut within a page. Assumes nothing.
 use native.Mathlib.Omega.{arith}
 use Rattle.tree_stamp.proofs.Meeting.{target_stands}
-use Rattle.tree_stamp.proofs.Planning.{stamp_over, stamp_fits}
 use Rattle.tree_stamp.proofs.plan_stamp.Goals as goal
 
 pub bytes_stamped-requires : goal.bytes_stamped-requires
@@ -23,20 +22,3 @@ cut_at-cut-requires c =
       omega (arith, is.count),
       is.few,
     )
-
-pub plan_leaf-requires : goal.plan_leaf-requires
-plan_leaf-requires c =
-    let k = c.requires in
-    (k.0, k.1.in_use)
-
-pub returns-then-bytes_stamped-gt-LEAF_ROOM : goal.returns-then-bytes_stamped-gt-LEAF_ROOM
-returns-then-bytes_stamped-gt-LEAF_ROOM c =
-    stamp_over _ _ _ (omega (arith, c.if-bytes_stamped-gt-LEAF_ROOM.true, c.bytes_stamped.ensures)) c.cut_at-cut.ensures c.plan_leaf.ensures
-
-pub plan_leaf-requires-2 : goal.plan_leaf-requires-2
-plan_leaf-requires-2 c =
-    let k = c.requires in
-    (k.0, k.1.in_use)
-
-pub returns : goal.returns
-returns c = stamp_fits _ _ _ _ (omega (arith, c.if-bytes_stamped-gt-LEAF_ROOM.false, c.bytes_stamped.ensures)) c.plan_leaf-2.ensures

@@ -21,8 +21,8 @@ returns-then-plan c =
     let n = rw c.page_of.ensures.0 at c.get_cell_count-n.ensures in
     over_done _ _ _ _ c.args.d c.requires.st_value c.requires.cell_met.0 c.requires.cell_met.1 c.requires.t_value.0 c.if-plan.true n c.store_divided.ensures
 
-pub slice_bounds-stamp_cell-end : goal.slice_bounds-stamp_cell-end
-slice_bounds-stamp_cell-end c =
+pub slice_bounds-pg-end : goal.slice_bounds-pg-end
+slice_bounds-pg-end c =
     let t = leaf-there _ _ _ _ c.args.d c.requires.st_value c.requires.cell_met.0 c.requires.cell_met.1 c.requires.t_value.0 in
     search rules
 

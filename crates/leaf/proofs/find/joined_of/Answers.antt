@@ -13,4 +13,4 @@ pub returns-then-claiming : goal.returns-then-claiming
 returns-then-claiming c = joined-claim _ _ _ _ _ _ _ (search rules) (search rules) (search rules) c.claim_conflicts.ensures
 
 pub returns : goal.returns
-returns c = joined_ported _ _ _ _ _ _ _ (search rules) (search rules) (search rules) c.version_conflicts.ensures
+returns c = joined_ported _ _ _ _ _ _ _ (search rules) (search rules) (search rules) c.conflicts.ensures

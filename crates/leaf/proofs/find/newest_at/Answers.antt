@@ -2,8 +2,8 @@
 use Rattle.leaf.proofs.Finding.{read_bad, read_got}
 use Rattle.leaf.proofs.find.newest_at.Goals as goal
 
-pub returns-in-Bad : goal.returns-in-Bad
-returns-in-Bad c = read_bad _ _ c.read_cell.ensures c.in-Bad.is
+pub returns-in-Err : goal.returns-in-Err
+returns-in-Err c = read_bad _ _ c.read_cell.ensures c.in-Err.is
 
-pub returns-in-Got : goal.returns-in-Got
-returns-in-Got c = read_got _ _ c.read_cell.ensures c.in-Got.is c.newest_of.ensures
+pub returns-in-Ok : goal.returns-in-Ok
+returns-in-Ok c = read_got _ _ c.read_cell.ensures c.in-Ok.is c.newest_of.ensures

@@ -6,8 +6,8 @@ use Rattle.leaf.proofs.find.newest_of.Goals as goal
 pub returns-then-x-key : goal.returns-then-x-key
 returns-then-x-key c = newest-other _ _ _ _ _ _ (search rules)
 
-pub returns-then-is_visible : goal.returns-then-is_visible
-returns-then-is_visible c = newest-seen _ _ _ _ _ _ (search rules) c.is_visible.ensures (search rules) c.later_of.ensures
+pub returns-then-sees : goal.returns-then-sees
+returns-then-sees c = newest-seen _ _ _ _ _ _ (search rules) c.sees.ensures (search rules) c.later_of.ensures
 
 pub returns : goal.returns
-returns c = newest_unseen _ _ _ _ _ _ (search rules) c.is_visible.ensures (search rules)
+returns c = newest_unseen _ _ _ _ _ _ (search rules) c.sees.ensures (search rules)

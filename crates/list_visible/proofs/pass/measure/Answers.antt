@@ -4,33 +4,27 @@ use Rattle.list_visible.proofs.Passing.{passing_start, passing_in, passing_sound
 use native.Mathlib.Omega.{arith}
 use Rattle.list_visible.proofs.pass.measure.Goals as goal
 
-pub loop-left-init : goal.loop-left-init
-loop-left-init c = passing_start _ _ _ _ _
-
-pub returns-then-used-p : goal.returns-then-used-p
-returns-then-used-p c = absurd (let h = passing_in _ _ _ _ _ c.requires.3 c.loop-left.invariant in omega (arith, c.if-used-p.true))
+pub loop-init : goal.loop-init
+loop-init c = passing_start _ _ _ _ _ (omega arith)
 
 pub measure_leaf-here-requires : goal.measure_leaf-here-requires
 measure_leaf-here-requires c =
-    (c.requires.0, passing_in _ _ _ _ _ c.requires.3 c.loop-left.invariant, c.requires.1, c.requires.2, passing_sound _ _ _ _ _ c.requires.3 c.loop-left.invariant, waits-whole c.loop-left.here.wait _ c.loop-left.invariant.waits, omega (arith, c.loop-left.invariant.small))
+    (c.requires.0, passing_in _ _ _ _ _ c.requires.1 c.loop.invariant, passing_sound _ _ _ _ _ c.requires.1 c.loop.invariant, waits-whole c.loop.here.wait _ c.loop.invariant.waits, omega (arith, c.loop.invariant.small))
 
 pub page_of-requires : goal.page_of-requires
-page_of-requires c = omega (arith, c.requires.0, c.if-used-p.false)
-
-pub get_next_leaf-p-requires : goal.get_next_leaf-p-requires
-get_next_leaf-p-requires c = omega (arith, c.page_of.ensures.1)
+page_of-requires c = let h = passing_in _ _ _ _ _ c.requires.1 c.loop.invariant in omega (arith, c.requires.0)
 
 pub full_size-requires : goal.full_size-requires
 full_size-requires c =
-    last-whole _ _ _ _ _ c.requires.3 c.loop-left.invariant c.requires.0 c.measure_leaf-here.ensures c.loop-left-test.true c.page_of.ensures.0 c.get_next_leaf-p.ensures c.if-p-eq0.true
+    last-whole _ _ _ _ _ c.requires.1 c.loop.invariant c.requires.0 c.measure_leaf-here.ensures c.page_of.ensures.0 c.get_next_leaf-p.ensures (omega arith) c.if-p-eq0.true
 
 pub returns-then-p-eq0 : goal.returns-then-p-eq0
 returns-then-p-eq0 c =
-    last-size _ _ _ _ _ c.requires.3 c.loop-left.invariant c.requires.0 c.measure_leaf-here.ensures c.loop-left-test.true c.page_of.ensures.0 c.get_next_leaf-p.ensures c.if-p-eq0.true c.full_size.ensures
+    last-size _ _ _ _ _ c.requires.1 c.loop.invariant c.requires.0 c.measure_leaf-here.ensures c.page_of.ensures.0 c.get_next_leaf-p.ensures (omega arith) c.if-p-eq0.true c.full_size.ensures
 
-pub loop-left-preserved : goal.loop-left-preserved
-loop-left-preserved c =
-    passing_on _ _ _ _ _ c.requires.3 c.loop-left.invariant c.requires.0 c.measure_leaf-here.ensures c.loop-left-test.true c.page_of.ensures.0 c.get_next_leaf-p.ensures c.if-p-eq0.false
+pub loop-preserved : goal.loop-preserved
+loop-preserved c =
+    passing_on _ _ _ _ _ c.requires.1 c.loop.invariant c.requires.0 c.measure_leaf-here.ensures c.page_of.ensures.0 c.get_next_leaf-p.ensures (omega arith) c.if-p-eq0.false
 
-pub returns : goal.returns
-returns c = absurd (passing_over _ _ _ _ _ c.requires.3 c.loop-left.invariant c.loop-left-test.false)
+pub unreachable-requires : goal.unreachable-requires
+unreachable-requires c = passing_over _ _ _ _ _ c.requires.1 c.loop.invariant (omega arith)

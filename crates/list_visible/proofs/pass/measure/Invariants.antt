@@ -1,10 +1,8 @@
 -- `list_visible::pass::measure` meets its contract: what was gathered is counted. Assumes nothing.
 use Rattle.list_visible.proofs.Passing.{Passing}
-use Rattle.mvcc.specs.Snapshot.{lookup, snapshot, statuses}
+use Rattle.mvcc.specs.Snapshot.{lookup}
+use Prim.Native.Nat.{◌-◌}
 use Rattle.list_visible.proofs.pass.measure.Given as goal
 
-abbrev pub invariant-loop-left : goal.invariant-loop-left
-invariant-loop-left l = Passing (snapshot l.xmax l.active l.cur) (lookup (statuses l.ids l.states)) l.used l.pool l.first l.left l.p l.here
-
-abbrev pub decreases-loop-left : goal.decreases-loop-left
-decreases-loop-left l = l.left
+abbrev pub invariant-loop : goal.invariant-loop
+invariant-loop l = Passing l.snapshot (lookup l.statuses) l.used l.pool l.first (l.used - l.counter) l.p l.here

@@ -5,28 +5,25 @@ use native.Mathlib.Omega.{arith}
 use Rattle.list_visible.proofs.pass.measure_leaf.Goals as goal
 use Rattle.list_visible.proofs.pass.measure_leaf.Goals.{then-visible_at, else-visible_at}
 
-pub page_of-pg-requires : goal.page_of-pg-requires
-page_of-pg-requires c = omega (arith, c.requires.0, c.requires.1)
-
-pub loop-left-init : goal.loop-left-init
-loop-left-init c = measuring_start _ _ _ _ _ c.page_of-pg.ensures.0 c.get_cell_count-left.ensures c.requires.4 c.requires.5
+pub loop-init : goal.loop-init
+loop-init c = measuring_start _ _ _ _ c.args.sc c.page_of-pg.ensures.0 (omega arith) c.requires.2 c.requires.3
 
 pub next_at-end-requires : goal.next_at-end-requires
-next_at-end-requires c = let t = next-turn _ _ _ _ c.loop-left-test.true c.loop-left.invariant.going in omega (arith, t.next-is, t.inside)
+next_at-end-requires c = let t = next-turn _ _ _ _ (omega arith) c.loop.invariant.going in omega (arith, t.next-is, t.inside)
 
 pub visible_at-requires : goal.visible_at-requires
-visible_at-requires c = let t = next-turn _ _ _ _ c.loop-left-test.true c.loop-left.invariant.going in (c.requires.2, c.requires.3, omega (arith, t.stamp_in_lem, t.inside))
+visible_at-requires c = let t = next-turn _ _ _ _ (omega arith) c.loop.invariant.going in omega (arith, t.stamp_in_lem, t.inside)
 
 pub chosen_at-requires : goal.chosen_at-requires
 chosen_at-requires c =
-    let t = next-turn _ _ _ _ c.loop-left-test.true c.loop-left.invariant.going in (omega (arith, t.low, t.inside), omega (arith, c.loop-left.invariant.within), omega (arith, t.next-is, t.inside, c.page_of-pg.ensures.1, c.next_at-end.ensures))
+    let t = next-turn _ _ _ _ (omega arith) c.loop.invariant.going in (omega (arith, t.low, t.inside), omega (arith, c.loop.invariant.within), omega (arith, t.next-is, t.inside, c.page_of-pg.ensures.1, c.next_at-end.ensures))
 
 pub step-here-requires : goal.step-here-requires
-step-here-requires c = (c.loop-left.invariant.whole, omega (arith, c.loop-left.invariant.small, c.loop-left.invariant.within, c.requires.6))
+step-here-requires c = (c.loop.invariant.whole, omega (arith, c.loop.invariant.small, c.loop.invariant.within, c.requires.4))
 
-pub loop-left-preserved : goal.loop-left-preserved
-loop-left-preserved c =
-    let t = next-turn _ _ _ _ c.loop-left-test.true c.loop-left.invariant.going in measuring_turn _ _ _ c.loop-left.invariant t c.page_of-pg.ensures.1 c.next_at-end.ensures (elim c.if-visible_at.branch [ then-visible_at w ↦ turn-seen _ _ _ _ t c.visible_at.ensures w.if-visible_at.true c.next_at-end.ensures w.chosen_at.ensures w.step-here.ensures w.here-is | else-visible_at w ↦ turn_unseen _ _ _ _ t c.visible_at.ensures w.if-visible_at.false w.here-is ])
+pub loop-preserved : goal.loop-preserved
+loop-preserved c =
+    let t = next-turn _ _ _ _ (omega arith) c.loop.invariant.going in measuring_turn _ _ _ c.loop.invariant t (omega arith) c.page_of-pg.ensures.1 c.next_at-end.ensures (elim c.if-visible_at.branch [ then-visible_at w ↦ turn-seen _ _ _ _ t c.visible_at.ensures w.if-visible_at.true c.next_at-end.ensures w.chosen_at.ensures w.step-here.ensures w.here-is | else-visible_at w ↦ turn_unseen _ _ _ _ t c.visible_at.ensures w.if-visible_at.false w.here-is ])
 
 pub returns : goal.returns
-returns c = measuring_end _ _ _ c.loop-left.invariant c.loop-left-test.false
+returns c = measuring_end _ _ _ c.loop.invariant (omega arith)

@@ -8,5 +8,5 @@ use Rattle.port.proofs.change.erbulonge_remove_all_versions.Goals as goal
 
 pub returns : goal.returns
 returns c =
-    passed-pool count_words _ c.give_counted.ensures
+    passed-pool count_words _ c.give.ensures
     (c.remove_all_versions.ensures ∙ remove_asked _ _ (ap rank_of (to_z-of_z c.ranges.key)))

@@ -14,13 +14,13 @@ pub returns-then-s-i : goal.returns-then-s-i
 returns-then-s-i c = end-past _ _ (search rules) c.get32-n.ensures (search rules)
 
 pub overflow_sub-m : goal.overflow_sub-m
-overflow_sub-m c = let h = head-is _ _ _ c.head_at.ensures c.in-Got.is in omega (arith, h.within)
+overflow_sub-m c = let h = head-is _ _ _ c.head_at.ensures c.in-Ok.is in omega (arith, h.within)
 
 pub returns-then-m-k-gt-MAX_DATA : goal.returns-then-m-k-gt-MAX_DATA
-returns-then-m-k-gt-MAX_DATA c = end-long _ _ (search rules) c.get32-n.ensures (search rules) c.head_at.ensures c.in-Got.is (search rules)
+returns-then-m-k-gt-MAX_DATA c = end-long _ _ (search rules) c.get32-n.ensures (search rules) c.head_at.ensures c.in-Ok.is (search rules)
 
-pub returns-in-Bad : goal.returns-in-Bad
-returns-in-Bad c = end_bad _ _ (search rules) c.get32-n.ensures (search rules) c.head_at.ensures c.in-Bad.is
+pub returns-in_default : goal.returns-in_default
+returns-in_default c = end_bad _ _ (search rules) c.get32-n.ensures (search rules) c.head_at.ensures c.in_default.is
 
-pub returns-else-m-k-gt-MAX_DATA : goal.returns-else-m-k-gt-MAX_DATA
-returns-else-m-k-gt-MAX_DATA c = end-there _ _ (search rules) c.get32-n.ensures (search rules) c.head_at.ensures c.in-Got.is (search rules)
+pub returns : goal.returns
+returns c = end-there _ _ (search rules) c.get32-n.ensures (search rules) c.head_at.ensures c.in-Ok.is (search rules)

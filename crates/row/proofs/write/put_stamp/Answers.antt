@@ -5,16 +5,16 @@ use native.Mathlib.Omega.{arith}
 use Rattle.row.proofs.write.put_stamp.Goals as goal
 
 pub put8-requires : goal.put8-requires
-put8-requires c = omega (arith, stamp-absent c.in-Absent.is)
+put8-requires c = omega (arith, stamp-absent c.in-None.is)
 
-pub put8-requires-in-By : goal.put8-requires-in-By
-put8-requires-in-By c = omega (arith, stamp_present c.in-By.is)
+pub put8-requires-in-Some : goal.put8-requires-in-Some
+put8-requires-in-Some c = omega (arith, stamp_present c.in-Some.is)
 
 pub put64-requires : goal.put64-requires
-put64-requires c = omega (arith, stamp_present c.in-By.is)
+put64-requires c = omega (arith, stamp_present c.in-Some.is)
 
-pub returns-in-Absent : goal.returns-in-Absent
-returns-in-Absent c = c.put8.ensures ∙ stamp-none-done _ _ c.in-Absent.is (omega (arith, stamp-absent c.in-Absent.is))
+pub returns-in-None : goal.returns-in-None
+returns-in-None c = c.put8.ensures ∙ stamp-none-done _ _ c.in-None.is (omega (arith, stamp-absent c.in-None.is))
 
-pub returns-in-By : goal.returns-in-By
-returns-in-By c = cc (stamp_by_done c.args.out.now c.args.i c.in-By.is (omega (arith, stamp_present c.in-By.is)))
+pub returns-in-Some : goal.returns-in-Some
+returns-in-Some c = cc (stamp_by_done c.args.out.now c.args.i c.in-Some.is (omega (arith, stamp_present c.in-Some.is)))

@@ -1,9 +1,6 @@
--- `test_histories::told::image` is safe and ends: each turn passes a piece.
-use Rattle.std.proofs.Common.{◌-◌, ◌≡◌, ◌≤◌, length}
+-- `test_histories::told::image` is safe: the pieces so far end inside the page.
+use Rattle.std.proofs.Common.{◌≤◌}
 use Rattle.test_histories.proofs.told.image.Given as goal
 
-abbrev pub invariant-loop-k : goal.invariant-loop-k
-invariant-loop-k l = (l.at ≤ 4096) × (length l.out ≡ length l.fn.out)
-
-abbrev pub decreases-loop-k : goal.decreases-loop-k
-decreases-loop-k l = 65536 - l.k
+abbrev pub invariant-loop : goal.invariant-loop
+invariant-loop l = l.at ≤ 4096

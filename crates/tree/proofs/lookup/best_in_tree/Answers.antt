@@ -1,9 +1,12 @@
 -- `tree::lookup::best_in_tree` meets its contract: each way out is one law of Looking. Assumes nothing.
+use Rattle.std.proofs.lemmas.Result.{err_from_is_err_and}
 use Rattle.tree.proofs.Looking.{best-lost, best-leaf}
 use Rattle.tree.proofs.lookup.best_in_tree.Goals as goal
 
-pub returns-in-Bad : goal.returns-in-Bad
-returns-in-Bad c = best-lost _ _ _ _ _ _ c.search_leaf.ensures c.in-Bad.is
+pub returns-in_err-first : goal.returns-in_err-first
+returns-in_err-first c =
+    let p = err_from_is_err_and c.from_residual.result c.from_residual.ensures.1 in
+    rw (p.1, p.2) (best-lost _ _ _ _ _ _ c.search_leaf.ensures c.in_err-first.was)
 
-pub returns-in-Leaf : goal.returns-in-Leaf
-returns-in-Leaf c = best-leaf _ _ _ _ _ _ c.search_leaf.ensures c.in-Leaf.is c.best_along.ensures
+pub returns : goal.returns
+returns c = best-leaf _ _ _ _ _ _ c.search_leaf.ensures c.in_ok-first.was c.best_along.ensures

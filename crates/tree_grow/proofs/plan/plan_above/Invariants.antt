@@ -1,7 +1,6 @@
 -- `tree_grow::plan::plan_above` meets its contract: what is left of the plan, from the pages so far, gives what the whole plan
 -- gives. Assumes nothing.
-use mathlib.Core.Path.{◌≡◌}
-use Prim.Native.Nat.{◌-◌, ◌<◌}
+use Rattle.std.proofs.Common.{◌≡◌}
 use Rattle.tree_grow.specs.Path.{page_at, pages_above}
 use Rattle.tree_grow.specs.Steps.Safe.{Stands}
 use Rattle.tree_grow.proofs.Planning.{plan_from}
@@ -9,8 +8,5 @@ use Rattle.tree_grow.proofs.plan.plan_above.Given as goal
 
 abbrev pub invariant-loop-full : goal.invariant-loop-full
 invariant-loop-full l =
-    (l.full < l.path.len) × Stands l.used (page_at l.path l.full) (pages_above l.path l.full) l.pool
+    Stands l.used (page_at l.path l.full) (pages_above l.path l.full) l.pool
     × (plan_from l.full l.used (page_at l.path l.full) (pages_above l.path l.full) l.pool ≡ plan_from 0 l.used (page_at l.path 0) (pages_above l.path 0) l.pool)
-
-abbrev pub decreases-loop-full : goal.decreases-loop-full
-decreases-loop-full l = l.path.len - l.full

@@ -1,0 +1,9 @@
+-- `mvcc::JudgedSnapshot::plain` meets its contract: an empty list rises.
+-- Assumes nothing.
+use Rattle.std.proofs.Common.{refl}
+use Rattle.mvcc.specs.Lists.{rising}
+use Rattle.mvcc.proofs.JudgedSnapshot.plain.Goals as goal
+
+pub invariant_of-result : goal.invariant_of-result
+unfolding rising
+invariant_of-result c = refl

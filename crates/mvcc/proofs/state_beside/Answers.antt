@@ -1,6 +1,0 @@
--- `mvcc::state_beside` meets its contract, test by test.
--- Assumes nothing.
-use Rattle.mvcc.proofs.state_beside.Goals as goal
-
-pub returns-then-tx-creator : goal.returns-then-tx-creator
-returns-then-tx-creator c = cc
