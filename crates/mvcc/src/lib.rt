@@ -43,7 +43,7 @@ impl<'a> Model for Statuses<'a> {
     ghost view = { λ s. statuses s.ids.now s.states.now };
 }
 
-// A snapshot whose active list is at most 4096 long and strictly rising.
+// A snapshot whose active list is strictly rising.
 #[derive(Drop)]
 pub struct JudgedSnapshot<'a> {
     xmax: u64,
