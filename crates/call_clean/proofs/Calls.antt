@@ -24,10 +24,6 @@ module _ (s : List ℕ) (st : State) (key : ℕ) {a : Bool} (pool : a ≡ good_p
   remove-pool t u = rw (sym pool ∙ t, u)
 
   module _ (good : a ≡ true) {d : Result ℕ Fault} (way : d ≡ descend_of s st.used st.root (Route.Search key) 3) where
-    pub remove-lost : {f : Fault} {r : Result ℕ Refused} → d ≡ Err f → r ≡ Err (faulty f) → ended r s ≡ remove_run s st key
-    unfolding remove_run
-    remove-lost e u = rw (sym pool ∙ good, sym way ∙ e, u)
-
     module _ {p : ℕ} (leaf : d ≡ Ok p) {c : Result ℕ Fault} (count : c ≡ count_along s st.used p key) where
       pub remove-ill : {f : Fault} {r : Result ℕ Refused} → c ≡ Err f → r ≡ Err (faulty f) → ended r s ≡ remove_run s st key
       unfolding remove_run
@@ -55,10 +51,6 @@ module _ (s : List ℕ) (st : State) (bound : ℕ) (ss : Statuses) {a : Bool} (p
     vacuum-statuses t u = rw (sym pool ∙ good, sym list ∙ t, u)
 
     module _ (list-good : b ≡ true) {d : Result ℕ Fault} (way : d ≡ descend_of s st.used st.root Route.First 3) where
-      pub vacuum-lost : {f : Fault} {r : Result ℕ Refused} → d ≡ Err f → r ≡ Err (faulty f) → ended r s ≡ vacuum_run s st ss bound
-      unfolding vacuum_run
-      vacuum-lost e u = rw (sym pool ∙ good, sym list ∙ list-good, sym way ∙ e, u)
-
       module _ {p : ℕ} (leaf : d ≡ Ok p) {c : Result Unit Fault} (judged : c ≡ judged_along s st.used p) where
         pub vacuum-ill : {f : Fault} {r : Result ℕ Refused} → c ≡ Err f → r ≡ Err (faulty f) → ended r s ≡ vacuum_run s st ss bound
         unfolding vacuum_run

@@ -47,7 +47,7 @@ abbrev pub dropped_end : Ended ℕ → Ended (Result ℕ Refused)
 dropped_end e = ended (Ok e.answer) e.pool
 
 abbrev pub on_chain_judged : {A : Type 0} → A → (Fault → A) → Result Unit Fault → A
-on_chain_judged good bad (Ok tt) = good
+on_chain_judged good bad (Ok _) = good
 on_chain_judged good bad (Err f) = bad f
 
 -- 1, 4, 2

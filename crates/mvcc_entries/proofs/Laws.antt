@@ -14,7 +14,7 @@ use Rattle.store.specs.Part.{put}
 use Rattle.mvcc.specs.Lists.{rising}
 use Rattle.mvcc.specs.Snapshot.{lookup, statuses}
 use Rattle.mvcc_entries.specs.declared.Entry.{Entry}
-use Rattle.mvcc_entries.specs.Entries.{txs, sts, room_of}
+use Rattle.mvcc_entries.specs.Entries.{txs, sts, unpack_room}
 use Rattle.store.proofs.PutLaws.{put-done, step_in}
 use Rattle.mvcc.proofs.Laws.{searched_in, lookup_at, lookup-none}
 
@@ -86,6 +86,6 @@ sts-put es i h = put-done i (drop_of_length-le (sts es) (omega (arith, length-st
 
 -- ---- Ok says that both slices have room
 
-pub room_fits : (good : Bool) (k n m : ℕ) → room_of good k n m ≡ Ok tt → (k ≤ n) × (k ≤ m)
-unfolding room_of
+pub room_fits : (good : Bool) (k n m : ℕ) → unpack_room good k n m ≡ Ok tt → (k ≤ n) × (k ≤ m)
+unfolding unpack_room
 room_fits good k n m e = (grind (arith, nat_tests), grind (arith, nat_tests))

@@ -22,11 +22,11 @@ status_call es tx = pick (good_statuses (statuses (txs es) (sts es))) (lookup (s
 
 -- section 6: 4 is BadStatuses, 12 is Short, in that order, and 0 is Done; of a list of k entries, good or not, and room
 -- for n and m numbers
-unfoldable pub room_of : (good : Bool) → (k n m : ℕ) → Result Unit Refusal
-room_of good k n m = unless good (Err Refusal.BadStatuses) (pick (ltb n k) (Err Refusal.Short) (pick (ltb m k) (Err Refusal.Short) (Ok tt)))
+unfoldable pub unpack_room : (good : Bool) → (k n m : ℕ) → Result Unit Refusal
+unpack_room good k n m = unless good (Err Refusal.BadStatuses) (pick (ltb n k) (Err Refusal.Short) (pick (ltb m k) (Err Refusal.Short) (Ok tt)))
 
 abbrev pub room_code : (good : Bool) → (k n m : ℕ) → ℕ
-room_code good k n m = (outcome_of (room_of good k n m)).number
+room_code good k n m = (outcome_of (unpack_room good k n m)).number
 
 unfoldable pub unpack_code : List Entry → (n m : ℕ) → ℕ
 unpack_code es n m = room_code (good_statuses (statuses (txs es) (sts es))) (length es) n m

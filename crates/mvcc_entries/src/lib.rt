@@ -6,7 +6,7 @@ ghost use Rattle.std.specs.Prelude.{◌≡◌, true, ◌≤◌, length};
 ghost use Rattle.store.specs.Part.{put};
 ghost use Rattle.mvcc.specs.Lists.{rising};
 ghost use Rattle.mvcc.specs.Snapshot.{lookup, good_statuses, statuses};
-ghost use Rattle.mvcc_entries.specs.Entries.{txs, sts, status_call, room_of, Unpacked};
+ghost use Rattle.mvcc_entries.specs.Entries.{txs, sts, status_call, unpack_room, Unpacked};
 
 use call_answers::Refusal;
 
@@ -73,9 +73,9 @@ fn write_entries(es: &[Entry], ids: &mut [u64], states: &mut [u8])
 }
 
 // Whether a list of k entries, good or not, goes into room for n and m numbers; otherwise its refusal.
-#[tactic(auto, unfolding(crate::specs::Entries::room_code, crate::specs::Entries::room_of))]
-fn judge_room(good: bool, k: usize, n: usize, m: usize) -> Result<(), Refusal>
-    ensures { result ≡ room_of good k n m }
+#[tactic(auto, unfolding(crate::specs::Entries::room_code, crate::specs::Entries::unpack_room))]
+fn judge_unpack(good: bool, k: usize, n: usize, m: usize) -> Result<(), Refusal>
+    ensures { result ≡ unpack_room good k n m }
 {
     if !good {
         return Err(Refusal::BadStatuses);
@@ -96,7 +96,7 @@ fn judge_room(good: bool, k: usize, n: usize, m: usize) -> Result<(), Refusal>
 pub extern "C" fn unpack(es: &[Entry], ids: &mut [u64], states: &mut [u8]) -> u8
     ensures { Unpacked es.now ids.old states.old result ids.new states.new }
 {
-    match judge_room(entries_are_good(es), es.len(), ids.len(), states.len()) {
+    match judge_unpack(entries_are_good(es), es.len(), ids.len(), states.len()) {
         Err(refusal) => u8::from(refusal),
         Ok(()) => {
             write_entries(es, ids, states);
