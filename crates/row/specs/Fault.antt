@@ -17,3 +17,16 @@ kind_number CellFault.Format = 1
 kind_number CellFault.Flag = 2
 kind_number CellFault.Short = 3
 kind_number CellFault.Long = 4
+
+-- a fault by three numbers: kind 1 to 4 and the cell's offset; kind 0 and offset 0 where it is of the page's structure
+abbrev pub fault_kind : Fault → ℕ
+fault_kind (Fault.Structure _) = 0
+fault_kind (Fault.Cell _ _ kind) = kind_number kind
+
+abbrev pub fault_page : Fault → ℕ
+fault_page (Fault.Structure p) = p
+fault_page (Fault.Cell p _ _) = p
+
+abbrev pub fault_offset : Fault → ℕ
+fault_offset (Fault.Structure _) = 0
+fault_offset (Fault.Cell _ at _) = at

@@ -26,7 +26,7 @@ pub mod read;
 pub mod write;
 
 ghost use Rattle.std.specs.Prelude.{◌≡◌};
-ghost use Rattle.row.specs.Fault.{structural, kind_number};
+ghost use Rattle.row.specs.Fault.{structural, kind_number, fault_kind, fault_page, fault_offset};
 ghost use Rattle.row.specs.Row.{Row};
 
 use std::marker::Model;
@@ -117,6 +117,38 @@ pub enum Fault {
         offset: usize,
         kind: CellFault,
     },
+}
+
+impl Fault {
+    // 0 where the structure of the page is wrong, and of a cell its kind's number.
+    pub fn kind(self) -> u8
+        ensures { result ≡ fault_kind self }
+    {
+        match self {
+            Fault::Structure(_) => 0,
+            Fault::Cell { kind, .. } => u8::from(kind),
+        }
+    }
+
+    // The page that cannot be read on.
+    pub fn page(self) -> u32
+        ensures { result ≡ fault_page self }
+    {
+        match self {
+            Fault::Structure(page) => page,
+            Fault::Cell { page, .. } => page,
+        }
+    }
+
+    // Where in the page the cell starts; 0 where the structure of the page is wrong.
+    pub fn offset(self) -> usize
+        ensures { result ≡ fault_offset self }
+    {
+        let Fault::Cell { offset, .. } = self else {
+            return 0;
+        };
+        offset
+    }
 }
 
 // The fault of a page whose structure is wrong.

@@ -8,7 +8,9 @@ pub fn copy_in(d: &mut [u8], at: usize, new: &[u8])
     requires { at + length new.now ≤ length d.old }
     ensures { d.new ≡ put at new.now d.old }
 {
-    d[at..at + new.len()].copy_from_slice(new);
+    for j in 0..new.len() {
+        d[at + j] = new[j];
+    }
 }
 
 // Zeros from one offset up to the other.
