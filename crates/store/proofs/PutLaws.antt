@@ -12,7 +12,7 @@ use Rattle.store.specs.Le.{bytes_le, put_at}
 use Rattle.std.specs.List.{copy_within}
 use Rattle.store.specs.Part.{part, splice, put, zeros, pad, spliced}
 use Rattle.store.proofs.LeLaws.{put_at-bytes, length-bytes_le}
-use Rattle.store.proofs.PartLaws.{length_part, splice-part}
+use Rattle.store.proofs.PartLaws.{length_part, splice-part, part_add}
 
 pub put_def : (a : ℕ) (x s : List ℕ) → put a x s ≡ take a s ++ (x ++ drop (a + length x) s)
 unfolding put splice
@@ -164,6 +164,46 @@ put_copied src dst n s h =
     let e : src + n - src ≡ n = omega arith in
     let l : length (part src n s) ≡ n = length_part src n s h in
     rw (put_def, l, e) (append_assoc (take dst s) (part src n s) (drop (dst + n) s))
+
+-- ---- a run copied in two parts, cut at h: it has come over whole where the order of the parts is the direction's
+
+module _ (src dst h n : ℕ) (s : List ℕ) (cut : h ≤ n) (fits : src + n ≤ length s) where
+  halves : part src h s ++ part (src + h) (n - h) s ≡ part src n s
+  halves =
+      let e : h + (n - h) ≡ n = omega arith in
+      sym (part_add src h (n - h) s) ∙ ap (λ (k : ℕ). part src k s) e
+
+  rest_copied : copy_within s (src + h) (src + n) (dst + h) ≡ put (dst + h) (part (src + h) (n - h) s) s
+  rest_copied =
+      let e : src + h + (n - h) ≡ src + n = omega arith in
+      rw e at (put_copied (src + h) (dst + h) (n - h) s (omega arith))
+
+-- down
+pub front_first : (src dst h n : ℕ) (s : List ℕ) → dst ≤ src → h ≤ n → src + n ≤ length s
+    → copy_within (copy_within s src (src + h) dst) (src + h) (src + n) (dst + h) ≡ put dst (part src n s) s
+front_first src dst h n s d i k =
+    let x = part src h s in
+    let y = part (src + h) (n - h) s in
+    let t = put dst x s in
+    let e : length x ≡ h = length_part src h s (omega arith) in
+    let l : length t ≡ length s = length-put dst x s (omega arith) in
+    let b : part (src + h) (n - h) t ≡ y = part-put_above dst x s (omega arith) (src + h) (n - h) (omega arith) in
+    let o : put (dst + h) y t ≡ put dst (x ++ y) s = put-after_at dst (dst + h) x y s (omega arith) (omega arith) in
+    rw (put_copied src dst h s (omega arith), rest_copied src dst h n t i (omega arith), b, o, halves src dst h n s i k)
+
+-- up
+pub back_first : (src dst h n : ℕ) (s : List ℕ) → src ≤ dst → h ≤ n → src + n ≤ length s → dst + n ≤ length s
+    → copy_within (copy_within s (src + h) (src + n) (dst + h)) src (src + h) dst ≡ put dst (part src n s) s
+back_first src dst h n s d i k m =
+    let x = part src h s in
+    let y = part (src + h) (n - h) s in
+    let t = put (dst + h) y s in
+    let e : length x ≡ h = length_part src h s (omega arith) in
+    let f : length y ≡ n - h = length_part (src + h) (n - h) s (omega arith) in
+    let l : length t ≡ length s = length-put (dst + h) y s (omega arith) in
+    let b : part src h t ≡ x = part-put-below (dst + h) y s (omega arith) src h (omega arith) in
+    let o : put dst x t ≡ put dst (x ++ y) s = rw e at (put-before dst x y s (omega arith)) in
+    rw (rest_copied src dst h n s i k, put_copied src dst h t (omega arith), b, o, halves src dst h n s i k)
 
 -- ---- a body with a part replaced
 

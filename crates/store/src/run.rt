@@ -22,7 +22,7 @@ pub fn zero_fill(d: &mut [u8], from: usize, to: usize)
 }
 
 // Copies n bytes from offset src to offset dst; the two places may overlap.
-#[tactic(auto, using(crate::proofs::PutLaws::put_copied))]
+#[tactic(auto, using(crate::proofs::PutLaws::put_copied, crate::proofs::PutLaws::front_first, crate::proofs::PutLaws::back_first))]
 pub fn shift(d: &mut [u8], src: usize, dst: usize, n: usize)
     requires { (src + n ≤ length d.old) × (dst + n ≤ length d.old) }
     ensures { d.new ≡ put dst (part src n d.old) d.old }
