@@ -66,6 +66,11 @@ module _ (s : List ℕ) (st : State) (key : ℕ) (sn : Snapshot) (ss : Statuses)
       by_pool true false d e f g u = absurd (cc)
       by_pool false b d e f g u = absurd (cc)
 
+-- the target that is made of it
+pub target_met : (used : ℕ) (s : List ℕ) (p : ℕ) (c : Cell) {t : Target} → t ≡ target_of (page s p) p c → CellMet used p c s
+    → CellMet used t.leaf t.cell s × (t ≡ target_of (page s t.leaf) t.leaf t.cell)
+target_met used s p c e m = rw e (m, refl)
+
 -- ---- what can be stored
 
 module _ (s : List ℕ) (st : State) (t : Target) (good : good_pool s st ≡ true) (met : CellMet st.used t.leaf t.cell s)

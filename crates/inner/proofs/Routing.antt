@@ -84,6 +84,40 @@ keys_rise_from x (suc n) i (suc a) (suc b) j k pg ej ek h l u =
 pub keys_rise : (n i j : ℕ) (pg : List ℕ) → never_falls 0 (keys_from pg 0 n) ≡ true → i ≤ j → j < n → key_at pg i ≤ key_at pg j
 keys_rise n i j pg h l u = keys_rise_from 0 n 0 i j i j pg (omega arith) (omega arith) h l u
 
+-- ---- the first that meets a test, among n keys
+
+pick_le : (b : Bool) (x n : ℕ) → x ≤ n → pick b 0 (suc x) ≤ suc n
+pick_le true x n h = omega arith
+pick_le false x n h = omega arith
+
+pub first_in : (test : ℕ → Bool) (n i : ℕ) (pg : List ℕ) → first_where test (keys_from pg i n) ≤ n
+unfolding first_where keys_from
+first_in test zero i pg = omega arith
+first_in test (suc n) i pg = pick_le (test (key_at pg i)) (first_where test (keys_from pg (i + 1) n)) n (first_in test n (i + 1) pg)
+
+-- a key that is at least the bound is not before the first such
+pub first_le : (bound n m i j : ℕ) (pg : List ℕ) → j ≡ i + m → m < n → bound ≤ key_at pg j → first_where (leb bound) (keys_from pg i n) ≤ m
+unfolding first_where keys_from
+first_le bound zero m i j pg e h l = absurd (omega arith)
+first_le bound (suc n) zero i j pg e h l =
+    let f : j ≡ i = omega arith in
+    rw (le-leb bound (key_at pg i) (rw f at l)) (omega arith)
+first_le bound (suc n) (suc m) i j pg e h l =
+    pick_le (leb bound (key_at pg i)) (first_where (leb bound) (keys_from pg (i + 1) n)) m (first_le bound n m (i + 1) j pg (omega arith) (omega arith) l)
+
+-- a key below the bound is before the first that is not, if they never fall
+pub first_gt : (bound n m i j x : ℕ) (pg : List ℕ) → j ≡ i + m → never_falls x (keys_from pg i n) ≡ true → m < n → key_at pg j < bound
+    → m < first_where (leb bound) (keys_from pg i n)
+unfolding first_where never_falls keys_from
+first_gt bound zero m i j x pg e h l k = absurd (omega arith)
+first_gt bound (suc n) zero i j x pg e h l k =
+    let f : j ≡ i = omega arith in
+    rw (lt-leb bound (key_at pg i) (rw f at k)) (omega arith)
+first_gt bound (suc n) (suc m) i j x pg e h l k =
+    let s = and_both (leb x (key_at pg i)) _ h in
+    let a : key_at pg i < bound = omega (arith, above (key_at pg i) n m (i + 1) j pg (omega arith) s.1 (omega arith)) in
+    rw (lt-leb bound (key_at pg i) a) (omega (arith, first_gt bound n m (i + 1) j (key_at pg i) pg (omega arith) s.1 (omega arith) k))
+
 -- ---- the first that meets a test, of a list that is read place by place, as the keys and the children of a page are
 
 -- it stands at r, if none before r meets the test, and r does, unless it is the end

@@ -5,6 +5,7 @@ use Rattle.std.proofs.Common.{Option, Some, None, Result, Ok, Err}
 use mathlib.Core.Path.{◌≡◌, refl, sym, ap, ◌∙◌}
 use mathlib.Core.Bool.{Bool, true, false}
 use mathlib.Core.List.{List, [], ◌∷◌}
+use mathlib.Core.Logic.{◌⊎◌, inl, inr}
 use Prim.Native.Nat.{ℕ, zero, suc, ◌+◌, ◌-◌, ◌≤◌, ◌<◌}
 use native.Mathlib.Omega.{arith}
 use lib.ListN.{length}
@@ -259,6 +260,21 @@ module _ (s : List ℕ) (p k c at : ℕ) {r : Result ℕ Fault} (is : r ≡ step
       by_step : (x : Step) → step_of s p k c at ≡ x → on_step (λ y. Ok y.next) (λ f. Err f) x ≡ Err g → step_of s p k c at ≡ Step.Bad g
       by_step (Step.Bad f) t m = let z : f ≡ g = cc in t ∙ ap (λ (y : Fault). Step.Bad y) z
       by_step (Step.Got x) t m = absurd (cc)
+
+  by_end : (x : Result Cell CellFault) → cell_at s at ≡ x
+      → ((r ≡ Err (step_fault s p at)) × (step_of s p k c at ≡ Step.Bad (step_fault s p at))) ⊎ ((e : ℕ) × ((r ≡ Ok e) × Stepped s p k c at e))
+  unfolding step_end step_of step_fault
+  by_end (Err kind) q = inl (is ∙ rw q, rw q)
+  by_end (Ok x) q = by_order (in_order k c x.key x.version.creator) refl
+    where
+      by_order : (b : Bool) → in_order k c x.key x.version.creator ≡ b
+          → ((r ≡ Err (step_fault s p at)) × (step_of s p k c at ≡ Step.Bad (step_fault s p at))) ⊎ ((e : ℕ) × ((r ≡ Ok e) × Stepped s p k c at e))
+      by_order false t = inl (is ∙ rw (q, t), rw (q, t))
+      by_order true t = let n : r ≡ Ok x.next = is ∙ rw (q, t) in inr (x.next, (n, stepped n))
+
+  -- one of the two, and the fault is the one that stands there
+  pub step_by : ((r ≡ Err (step_fault s p at)) × (step_of s p k c at ≡ Step.Bad (step_fault s p at))) ⊎ ((e : ℕ) × ((r ≡ Ok e) × Stepped s p k c at e))
+  step_by = by_end (cell_at s at) refl
 
 walk_same : {A : Type 0} (f : A → Cell → A) (s : List ℕ) (p m : ℕ) (a : A) {k k' c c' e e' : ℕ} → k ≡ k' → c ≡ c' → e ≡ e' → walk f p k c m e a s ≡ walk f p k' c' m e' a s
 walk_same f s p m a u v w = rw (u, v, w)

@@ -12,7 +12,7 @@ use Prim.Native.Nat.{ℕ, ◌+◌, ◌*◌, ◌≤◌, ◌<◌}
 use native.Mathlib.Omega.{arith}
 use borrow.Author.Tests.{le-leb, lt-leb}
 use lib.Dec.{eqb}
-use lib.ListN.{length, length-append}
+use lib.ListN.{length, length-append, length-replicate}
 use Rattle.store.specs.Le.{bytes_le}
 use Rattle.store.specs.Part.{put, zeros}
 use Rattle.row.specs.Write.{record_bytes}
@@ -23,7 +23,7 @@ use Rattle.list_pages.specs.Numbers.{numbers_of, number_records, numbers_tree}
 use Rattle.list_pages.specs.Steps.Table.{bit_at, noted, Log, log_of, visit_of, LogEnds, cap_of}
 use Rattle.store.proofs.LeLaws.{length-bytes_le}
 use Rattle.store.proofs.PartLaws.{le_or_lt}
-use Rattle.store.proofs.PutLaws.{put_nil, length-put, put-after_at}
+use Rattle.store.proofs.PutLaws.{put_nil, length-put, put-after_at, put-end, part_none}
 use Rattle.list_pages.proofs.Alike.{Alike, visit_alike}
 use Rattle.list_pages.proofs.Bits.{Table, bit_with, table_with, table_zero, bit_zero}
 use Rattle.list_pages.proofs.Visits.{told_bad, told-ok, visit_grows}
@@ -123,6 +123,16 @@ fault_of out (Err f) (Err g) h e = cc
 
 same_list : {a b : List ℕ} {x : Result (List ℕ) Fault} → x ≡ Ok a → x ≡ Ok b → a ≡ b
 same_list p q = cc
+
+-- ---- a table emptied again, and an output that is lent in no part
+
+pub zeros_again : (n : ℕ) (s : List ℕ) → length s ≡ n → put 0 (zeros n) s ≡ zeros n
+zeros_again n s e =
+    put-end 0 (zeros n) s (omega arith) (omega (arith, length-replicate {A = ℕ} n 0)) ∙ rw (part_none 0 0 s refl)
+
+pub lent_none : (y out : List ℕ) → length y ≡ 0 → y ++ out ≡ out
+lent_none [] out e = refl
+lent_none (x ∷ y) out e = absurd (omega arith)
 
 -- ---- the ways out of the listing; the first walk has an output of its own
 

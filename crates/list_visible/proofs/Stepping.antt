@@ -22,6 +22,14 @@ use Rattle.row.proofs.Writing.{length-record}
 
 -- ---- what waits
 
+module _ (wait : Option Chosen) {o : Chosen} (e : wait ≡ Some o) where
+  pub whole_at : Whole wait → (o.from ≤ o.to) × (o.to - o.from ≤ 4096)
+  whole_at w = rw e at w
+
+  pub size_few : {n : ℕ} → Whole wait → n ≡ record_size o → n ≤ 4102
+  unfolding record_size
+  size_few w u = let h = whole_at w in rw u (omega (arith, h.1))
+
 pub waits-whole : (wait : Option Chosen) (s : List ℕ) → Waits wait s → Whole wait
 waits-whole None s w = tt
 waits-whole (Some o) s w = (w.0, w.1)
@@ -69,7 +77,7 @@ module _ (a : ℕ) (wait : Option Chosen) (s : List ℕ) where
   wait_none out e = rw e (sym (put_nil a out))
 
   module _ {o : Chosen} (e : wait ≡ Some o) (w : Waits wait s) where
-    wait_at : Waits (Some o) s
+    pub wait_at : Waits (Some o) s
     wait_at = rw e at w
 
     pub wait_written : (out : List ℕ) {r : List ℕ} → r ≡ put a (record_bytes 1 (mid_of o.from (o.to - o.from) s)) out → r ≡ put a (wait_bytes wait s) out

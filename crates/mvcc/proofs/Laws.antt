@@ -16,9 +16,9 @@ use native.Mathlib.Numerals.{add-one}
 use native.Mathlib.Omega.{arith}
 use lib.ListN.{length, get_or}
 use lib.Dec.{ltb, leb, eqb}
-use borrow.Author.Tests.{ltb-true, ltb-false, eqb-true, eq-eqb, ne_eqb}
+use borrow.Author.Tests.{ltb-true, ltb-false, le-leb, lt-leb, eqb-true, eq-eqb, ne_eqb}
 use Rattle.mvcc.specs.Lists.{rising, rising_from, are_states, mem, good_active, state_at}
-use Rattle.mvcc.specs.Snapshot.{good_statuses, Statuses}
+use Rattle.mvcc.specs.Snapshot.{good_statuses, Statuses, statuses}
 use Rattle.mvcc.specs.Steps.Snapshot.{StatusesJudged}
 use Rattle.store.proofs.PartLaws.{le_or_lt}
 
@@ -117,6 +117,34 @@ module _ (x : ℕ) (l : List ℕ) (rises : rising l ≡ true) where
   pub mem-searched : (r : Result ℕ ℕ) → IsBinarySearchResult (λ y. nat_cmp y x) l r → is_ok r ≡ mem x l
   mem-searched (Ok i) h = let p = searched_in (Ok i) h in sym (mem_at x l i p.0 p.1)
   mem-searched (Err i) h = sym (mem-none x l (searched_in (Err i) h))
+
+-- ---- the judgements, way out by way out
+
+pub active-long : (l : List ℕ) → 4096 < length l → false ≡ good_active l
+unfolding good_active
+active-long l h = rw lt-leb
+
+pub active_rest : (l : List ℕ) → length l ≤ 4096 → rising l ≡ good_active l
+unfolding good_active
+active_rest l h = rw le-leb
+
+pub statuses-long : (is ss : List ℕ) → 65536 < length is → false ≡ good_statuses (statuses is ss)
+unfolding good_statuses
+statuses-long is ss h = rw lt-leb
+
+pub statuses_unlike : (is ss : List ℕ) → length is ≤ 65536 → (length is ≡ length ss → ⊥) → false ≡ good_statuses (statuses is ss)
+unfolding good_statuses
+statuses_unlike is ss h n = rw (le-leb, ne_eqb)
+
+pub statuses_both : (is ss : List ℕ) → length is ≤ 65536 → length is ≡ length ss → good_statuses (statuses is ss) ≡ (rising is && are_states ss)
+unfolding good_statuses
+statuses_both is ss h e = rw (le-leb, eq-eqb (length is) (length ss) e)
+
+pub statuses_fallen : (is ss : List ℕ) → length is ≤ 65536 → length is ≡ length ss → rising is ≡ false → false ≡ good_statuses (statuses is ss)
+statuses_fallen is ss h e r = rw (statuses_both, r)
+
+pub statuses-rest : (is ss : List ℕ) → length is ≤ 65536 → length is ≡ length ss → rising is ≡ true → are_states ss ≡ good_statuses (statuses is ss)
+statuses-rest is ss h e r = rw (statuses_both, r)
 
 -- ---- what a good list gives its readers
 

@@ -2,7 +2,7 @@
 use mathlib.Core.Path.{◌≡◌, refl, sym, ap, ap₂, ◌∙◌}
 use mathlib.Core.List.{List, [], ◌∷◌, ◌++◌, append_assoc}
 use Prim.Native.Nat.{ℕ, zero, suc, ◌+◌, ◌*◌, ◌/◌, ◌%◌, ◌^◌, ◌≤◌, ◌<◌}
-use native.Mathlib.Nat.{zero-add, suc-add, add-zero, mul_assoc, mul_comm, one-mul, pow-zero, pow-suc, mod-eq_of_lt, mod-one, one-le-pow, zero-lt-suc}
+use native.Mathlib.Nat.{zero-add, suc-add, add-zero, mul_assoc, mul_comm, one-mul, pow-zero, pow-suc, mod-eq_of_lt, mod-one, div-one, one-le-pow, zero-lt-suc, div-div-eq-div-mul}
 use native.Mathlib.Numerals.{add-one}
 use native.Mathlib.Omega.{arith}
 use lib.Arith.{mod-mul}
@@ -19,6 +19,12 @@ pos256 w = one-le-pow w 256 (zero-lt-suc 255)
 pub mod_suc256 : (w x : ℕ) → x % 256 ^ suc w ≡ x % 256 + 256 * (x / 256 % 256 ^ w)
 mod_suc256 w x =
     rw (pow-suc, mod-mul x {m = 256 ^ w} {c = 256} (pos256 w) (zero-lt-suc 255)) (omega arith)
+
+pub low256 : (w x : ℕ) → x % 256 ^ suc w % 256 ≡ x % 256
+low256 w x = rw (mod_suc256 w x) (omega arith)
+
+pub high256 : (w x : ℕ) → x % 256 ^ suc w / 256 ≡ x / 256 % 256 ^ w
+high256 w x = rw (mod_suc256 w x) (omega arith)
 
 -- ---- reading
 
@@ -53,6 +59,23 @@ pub length-put_at : (w : ℕ) (s : List ℕ) (a x : ℕ) → length (put_at w s 
 unfolding put_at
 length-put_at zero s a x = refl
 length-put_at (suc w) s a x = rw (length-put_at w (set s a (x % 256)) (a + 1) (x / 256)) (length-set s a (x % 256))
+
+pub put_at_add : (v w : ℕ) (s : List ℕ) (a x : ℕ) → put_at (v + w) s a x ≡ put_at w (put_at v s a x) (a + v) (x / 256 ^ v)
+unfolding put_at
+put_at_add zero w s a x = rw (zero-add, add-zero, pow-zero, div-one)
+put_at_add (suc v) w s a x =
+    let e : a + 1 + v ≡ a + suc v = omega arith in
+    rw (suc-add, put_at, put_at_add v w (set s a (x % 256)) (a + 1) (x / 256), e, div-div-eq-div-mul, pow-suc, mul_comm (256 ^ v) 256)
+
+-- only the low w digits are written
+pub put_at_mod : (w : ℕ) (s : List ℕ) (a x : ℕ) → put_at w s a (x % 256 ^ w) ≡ put_at w s a x
+unfolding put_at
+put_at_mod zero s a x = refl
+put_at_mod (suc w) s a x = rw (low256, high256, put_at_mod w (set s a (x % 256)) (a + 1) (x / 256))
+
+-- a field of v + w bytes is written as one of v and one of w
+pub put_at-two : (v w : ℕ) (s : List ℕ) (a x : ℕ) → put_at (v + w) s a x ≡ put_at w (put_at v s a (x % 256 ^ v)) (a + v) (x / 256 ^ v)
+put_at-two v w s a x = rw (put_at_mod v s a x) (put_at_add v w s a x)
 
 -- ---- frames
 

@@ -4,10 +4,11 @@ use mathlib.Core.List.{List, [], ◌∷◌, ◌++◌}
 use mathlib.Core.Logic.{◌⊎◌, inl, inr, ⊎_elim}
 use Prim.Native.Nat.{ℕ, zero, suc, ◌+◌, ◌-◌, ◌/◌, ◌%◌, ◌^◌, ◌≤◌, ◌<◌, zero-le, suc-le-suc}
 use native.Mathlib.Nat.{sub-zero, zero-sub, suc-sub-suc, add_assoc, mod-eq_of_lt}
+use native.Mathlib.Numerals.{add-one}
 use native.Mathlib.Omega.{arith}
 use borrow.Rule.Slice.PartMut.{mid_of, put_mid}
 use lib.ListN.{length, get_or, set, take, drop, get_or-eq_default, length-append, length-take, length-drop, get_or-append, take-append-drop}
-use lib.Seq.{length-take-le, get_or-take, get_or-drop, get_or-append-add, ext_get_or, take-set-lt, drop-set-add, take_at, drop_at, drop-drop, take-take, take-nil, take-add}
+use lib.Seq.{length-take-le, get_or-take, get_or-drop, get_or-append-add, ext_get_or, take-set-lt, drop-set-add, take_at, drop_at, take-suc, drop-drop, take-take, take-nil, take-add}
 use Rattle.store.specs.Le.{AreBytes, le_at, bytes_le, put_at}
 use Rattle.store.specs.Part.{part, splice}
 use Rattle.store.proofs.LeLaws.{le_at_ext, le_at-bytes, bytes_le-le_at, length-put_at, get_d-put_at-below, get_d-put_at_above}
@@ -157,6 +158,13 @@ unfolding splice
 splice-splice a n x y s fits len =
     let e : length (take a s) ≡ a = length-take-le a s (omega arith) in
     rw (take_at (take a s) (x ++ drop n (drop a s)) a e, drop_at (take a s) (x ++ drop n (drop a s)) a e, drop_at x (drop n (drop a s)) n len)
+
+-- one element more
+pub part_snoc : (f n : ℕ) (s : List ℕ) → f + n < length s → part f n s ++ (get_or s (f + n) 0 ∷ []) ≡ part f (n + 1) s
+unfolding part
+part_snoc f n s h =
+    let hd : n < length (drop f s) = rw length-drop (omega arith) in
+    rw (add-one, take-suc (drop f s) n 0 hd, get_or-drop)
 
 -- ---- a part of a part
 
