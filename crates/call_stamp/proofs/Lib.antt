@@ -1,2 +1,3 @@
 -- Laws of the calls that stamp.
 pub mod Stamping
+pub mod Calls

@@ -32,7 +32,9 @@ pub fn mark_ready(
     let snapshot = snapshot.judged().ok_or(Refusal::BadSnapshot)?;
     let statuses = statuses.judged().ok_or(Refusal::BadStatuses)?;
     let best = tree::lookup::best_in_tree(pool, st.used, st.root, key, &snapshot, &statuses)?;
-    let (leaf, cell) = best.ok_or(Refusal::Absent)?;
+    let Some((leaf, cell)) = best else {
+        return Err(Refusal::Absent.into());
+    };
     let target = tree_stamp::target_at(pool, leaf, cell);
     let test = if claiming {
         let seen = cell.version.creator;

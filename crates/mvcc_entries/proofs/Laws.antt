@@ -5,13 +5,14 @@ use Rattle.std.proofs.lemmas.Bool.Decides.{nat_tests}
 use Rattle.std.specs.List.Sorted.{IsBinarySearchResult}
 use mathlib.Core.Path.{◌≡◌, sym, ◌∙◌}
 use mathlib.Core.Bool.{Bool, true}
-use mathlib.Core.List.{List}
+use mathlib.Core.List.{List, [], ◌∷◌}
 use Prim.Native.Nat.{ℕ, ◌+◌, ◌≤◌, ◌<◌}
 use native.Mathlib.Nat.{zero-add}
 use native.Mathlib.Omega.{arith}
 use lib.ListN.{length, get_or, set, drop, length-map, get_or-map, drop_of_length-le}
+use borrow.Author.Tests.{eq-eqb}
 use Rattle.store.specs.Part.{put}
-use Rattle.mvcc.specs.Lists.{rising}
+use Rattle.mvcc.specs.Lists.{rising, state_at}
 use Rattle.mvcc.specs.Snapshot.{lookup, statuses}
 use Rattle.mvcc_entries.specs.declared.Entry.{Entry}
 use Rattle.mvcc_entries.specs.Entries.{txs, sts, unpack_room}
@@ -61,6 +62,14 @@ module _ (es : List Entry) (t : ℕ) where
     state_found h =
         let p = searched_in t (txs es) rises (Ok i) (searched_by_tx (Ok i) h) in
         sym (sts_at es i) ∙ sym (lookup_at t (txs es) (sts es) i rises p.0 (omega (arith, length-txs es, length-sts es, p.0)) p.1)
+
+    -- there the entry alone says it
+    pub settled_found : IsBinarySearchResult (λ (e : Entry). nat_cmp e.tx t) es (Ok i)
+        → lookup (statuses ((get_or es i none).tx ∷ []) ((get_or es i none).state ∷ [])) t ≡ lookup (statuses (txs es) (sts es)) t
+    unfolding state_at
+    settled_found h =
+        let p = searched_in t (txs es) rises (Ok i) (searched_by_tx (Ok i) h) in
+        rw (eq-eqb _ _ (sym (txs_at es i) ∙ p.1)) (state_found h)
 
     pub state_missing : IsBinarySearchResult (λ (e : Entry). nat_cmp e.tx t) es (Err i) → 0 ≡ lookup (statuses (txs es) (sts es)) t
     state_missing h = sym (lookup-none t (txs es) (sts es) (searched_in t (txs es) rises (Err i) (searched_by_tx (Err i) h)))

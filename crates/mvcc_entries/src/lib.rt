@@ -2,7 +2,7 @@
 // `&[Entry]`; it judges, searches and unpacks such a list, and the rules are mvcc's, on two number slices.
 #![tactic(auto)]
 
-ghost use Rattle.std.specs.Prelude.{◌≡◌, true, ◌≤◌, length};
+ghost use Rattle.std.specs.Prelude.{◌≡◌, true, [], ◌∷◌, ◌≤◌, length};
 ghost use Rattle.store.specs.Part.{put};
 ghost use Rattle.mvcc.specs.Lists.{rising};
 ghost use Rattle.mvcc.specs.Snapshot.{lookup, good_statuses, statuses};
@@ -18,13 +18,22 @@ pub struct Entry {
     pub state: u8,
 }
 
+// What one entry says of tx: mvcc's lookup, on two number slices of one element each.
+fn settled(e: Entry, tx: u64) -> u8
+    ensures { result ≡ lookup (statuses (e.tx ∷ []) (e.state ∷ [])) tx }
+{
+    let ids = [e.tx];
+    let states = [e.state];
+    mvcc::lists::status_of(&ids, &states, tx)
+}
+
 // The state of tx in a list that rises: 0 where it is absent.
 fn state_of(es: &[Entry], tx: u64) -> u8
     requires { rising (txs es.now) ≡ true }
     ensures { result ≡ lookup (statuses (txs es.now) (sts es.now)) tx }
 {
     match es.binary_search_by_key(&tx, |entry| entry.tx) {
-        Ok(i) => es[i].state,
+        Ok(i) => settled(es[i], tx),
         Err(_) => 0,
     }
 }

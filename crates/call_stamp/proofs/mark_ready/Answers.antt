@@ -9,10 +9,10 @@ use Rattle.call_stamp.proofs.mark_ready.Goals as goal
 
 pub target_at-target-requires : goal.target_at-target-requires
 target_at-target-requires c =
-    let met = best-met _ _ _ _ _ _ (sym c.best_in_tree.ensures ∙ c.in_ok-best.was ∙ ap (λ (x : Best). Ok x) c.in_ok-leaf.ensures.ok_part) in
+    let met = best-met _ _ _ _ _ _ (sym c.best_in_tree.ensures ∙ c.in_ok-best.was ∙ ap (λ (x : Best). Ok x) c.in-Some.is) in
     omega (arith, met.in_use, pool_room _ _ (sym c.pool_is_good.ensures ∙ c.if-not-pool_is_good.false))
 
 pub marking_at-requires : goal.marking_at-requires
 marking_at-requires c =
-    let met = best-met _ _ _ _ _ _ (sym c.best_in_tree.ensures ∙ c.in_ok-best.was ∙ ap (λ (x : Best). Ok x) c.in_ok-leaf.ensures.ok_part) in
+    let met = best-met _ _ _ _ _ _ (sym c.best_in_tree.ensures ∙ c.in_ok-best.was ∙ ap (λ (x : Best). Ok x) c.in-Some.is) in
     rw c.target_at-target.ensures (sym c.pool_is_good.ensures ∙ c.if-not-pool_is_good.false, met, refl)
