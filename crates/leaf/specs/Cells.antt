@@ -1,5 +1,6 @@
 -- The cells of a leaf as a list, and its judgement (document 01, section 3: "cells are readable and non-decreasing by
--- key, then creator"), which answers where the cells end, or the first fault in reading order (its kind by row/Read's numbers).
+-- key, then creator"), which answers where the cells end, or the first fault in reading order (its kind by the
+-- numbers of row/Fault, `kind_number`).
 use Rattle.row.specs.declared.CellFault.{CellFault}
 use Rattle.std.specs.Prelude.{Result, Ok, Err, Bool, ◌&&◌, ◌||◌, false, List, [], ◌∷◌, ℕ, zero, suc, leb, ltb, eqb}
 use Rattle.store.specs.Pick.{pick}

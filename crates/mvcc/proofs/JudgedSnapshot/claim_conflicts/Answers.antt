@@ -1,4 +1,4 @@
--- `mvcc::claim_conflicts` meets its contract: today it is the ported test.
+-- `mvcc::JudgedSnapshot::claim_conflicts` meets its contract: today it is the ported test.
 -- Assumes nothing.
 use Rattle.std.proofs.Common.{rules}
 use Rattle.mvcc.specs.Rules.{claim_conflicting}

@@ -1,4 +1,4 @@
--- `mvcc::committed_before_snapshot` meets its contract, test by test.
+-- `mvcc::JudgedSnapshot::committed_before` meets its contract, test by test.
 -- Assumes nothing.
 use mathlib.Core.Path.{sym, ◌∙◌}
 use Rattle.std.proofs.Common.{rules}

@@ -1,4 +1,4 @@
--- `mvcc::version_conflicts` meets its contract, test by test.
+-- `mvcc::JudgedSnapshot::conflicts` meets its contract, test by test.
 -- Assumes nothing.
 use mathlib.Core.Path.{◌∙◌}
 use Rattle.std.proofs.Common.{rules}

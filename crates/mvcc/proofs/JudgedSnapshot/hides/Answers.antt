@@ -1,4 +1,4 @@
--- `mvcc::hides` meets its contract, test by test.
+-- `mvcc::JudgedSnapshot::hides` meets its contract, test by test.
 -- Assumes nothing.
 use mathlib.Core.Path.{sym, ◌∙◌}
 use Rattle.std.proofs.Common.{rules}

@@ -1,4 +1,4 @@
--- `mvcc::intrudes` meets its contract, test by test.
+-- `mvcc::JudgedSnapshot::intrudes` meets its contract, test by test.
 -- Assumes nothing.
 use mathlib.Core.Path.{sym, ◌∙◌}
 use Rattle.mvcc.proofs.RuleLaws.{intruding_own, intruding_else}

@@ -1,4 +1,4 @@
--- `mvcc::own_stamp` meets its contract, variant by variant.
+-- `mvcc::JudgedSnapshot::is_own` meets its contract, variant by variant.
 -- Assumes nothing.
 use mathlib.Core.Path.{◌∙◌}
 use Rattle.std.proofs.Common.{rules}

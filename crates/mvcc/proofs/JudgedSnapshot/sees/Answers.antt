@@ -1,4 +1,4 @@
--- `mvcc::is_visible` meets its contract, test by test.
+-- `mvcc::JudgedSnapshot::sees` meets its contract, test by test.
 -- Assumes nothing.
 use mathlib.Core.Path.{sym, ap, ◌∙◌}
 use mathlib.Core.Bool.{not}

@@ -1,4 +1,4 @@
--- `mvcc::vacuum::fate_of` meets its contract, test by test.
+-- `mvcc::JudgedStatuses::fate_of` meets its contract, test by test.
 -- Assumes nothing.
 use mathlib.Core.Path.{◌∙◌}
 use Rattle.std.proofs.Common.{rules}

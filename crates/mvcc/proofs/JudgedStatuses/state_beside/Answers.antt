@@ -1,4 +1,4 @@
--- `mvcc::state_beside` meets its contract, test by test.
+-- `mvcc::JudgedStatuses::state_beside` meets its contract, test by test.
 -- Assumes nothing.
 use Rattle.mvcc.proofs.JudgedStatuses.state_beside.Goals as goal
 
