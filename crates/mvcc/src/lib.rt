@@ -178,11 +178,7 @@ impl<'a> JudgedSnapshot<'a> {
     pub fn plain(current: Option<u64>) -> JudgedSnapshot<'a>
         ensures { result ≡ plain_snapshot current }
     {
-        JudgedSnapshot {
-            xmax: PLAIN_XMAX,
-            active: &[],
-            current,
-        }
+        JudgedSnapshot::new(PLAIN_XMAX, &[], current)
     }
 
     fn is_current(&self, tx: u64) -> bool

@@ -1,6 +1,6 @@
 // The fields of a version as a line spells them (document 01, section 2): key, creator, stamp and pointer.
 // The line has the bits of a key, and `row` its rank.
-ghost use Rattle.std.specs.Prelude.{◌≡◌};
+ghost use Rattle.std.specs.Prelude.{◌≡◌, ◌+◌, ◌≤◌, IfOk, length};
 
 use crate::line::{Fields, split_at_byte};
 use crate::{TextError, is_dash, number};
@@ -36,7 +36,10 @@ fn pointer(s: &[u8]) -> Result<Option<Pointer>, TextError> {
 
 impl Head {
     // Takes KEY CREATOR STAMP POINTER.
-    pub fn take(fields: &mut Fields) -> Result<Head, TextError> {
+    pub fn take(fields: &mut Fields) -> Result<Head, TextError>
+        ensures never_longer { length fields.new.rest.now ≤ length fields.old.rest.now }
+        ensures taken { IfOk result (λ h. 2 + length fields.new.rest.now ≤ length fields.old.rest.now) }
+    {
         Ok(Head {
             key: page::key::flip32(fields.take_number()?),
             creator: fields.take_number()?,
@@ -47,7 +50,9 @@ impl Head {
 
     // The version with these fields and that data.
     pub fn with_data<'a>(self, body: &'a [u8]) -> NewVersion<'a>
-        ensures { result.body ≡ body.now }
+        ensures data { result.body ≡ body.now }
+        ensures fields { result ≡
+            record { key = self.key; creator = self.creator; stamp = self.stamp; pointer = self.pointer; body = body.now } }
     {
         NewVersion {
             key: self.key,

@@ -77,6 +77,7 @@ fn digit(c: u8) -> Option<u64> {
 pub fn number<T: TryFrom<u64>>(s: &[u8]) -> Result<T, TextError>
 where
     T::Error: Drop,
+    ensures { IfOk result (λ n. 0 < length s.now) }
 {
     if s.is_empty() {
         return Err(TextError::NotHexadecimal);

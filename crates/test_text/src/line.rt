@@ -1,6 +1,7 @@
 // A list cut into lines, and a line into fields.
-ghost use Rattle.std.specs.Prelude.{◌≡◌, ◌+◌, ◌<◌, ◌≤◌, IfSome, length};
+ghost use Rattle.std.specs.Prelude.{◌≡◌, ◌+◌, ◌<◌, ◌≤◌, IfOk, IfSome, length};
 ghost use Rattle.std.specs.Iterator.{at_most};
+ghost use Rattle.test_text.specs.Cut.{line_end, space, before_byte, after_byte};
 
 use crate::{TextError, find, number};
 
@@ -8,6 +9,8 @@ use crate::{TextError, find, number};
 pub(crate) fn split_at_byte(s: &[u8], b: u8) -> (&[u8], &[u8])
     ensures shorter { 0 < length s.now → length result.1.now < length s.now }
     ensures parts { length result.0.now + length result.1.now ≤ length s.now }
+    ensures before { result.0.now ≡ before_byte b s.now }
+    ensures after { result.1.now ≡ after_byte b s.now }
 {
     match find(s, b) {
         Some(i) => (&s[..i], &s[i + 1..]),
@@ -34,7 +37,9 @@ impl<'a> Lines<'a> {
 impl<'a> Iterator for Lines<'a> {
     type Item = &'a [u8];
 
-    ghost next_gives = { λ s r t. IfSome r (λ line. length line.now + length t.rest.now ≤ length s.rest.now) };
+    ghost next_gives = { λ s r t. IfSome r (λ line.
+        (length line.now + length t.rest.now ≤ length s.rest.now)
+        × ((line.now ≡ before_byte line_end s.rest.now) × (t.rest.now ≡ after_byte line_end s.rest.now))) };
 
     ghost remaining = { λ s. at_most (length s.rest.now) };
 
@@ -51,24 +56,34 @@ impl<'a> Iterator for Lines<'a> {
 // What is left of a line, to be read field by field.
 #[derive(Clone, Copy)]
 pub struct Fields<'a> {
-    rest: &'a [u8],
+    // What follows the fields so far.
+    pub rest: &'a [u8],
 }
 
 impl<'a> Fields<'a> {
     // All fields of that line.
-    pub fn new(line: &'a [u8]) -> Self {
+    pub fn new(line: &'a [u8]) -> Self
+        ensures { result.rest.now ≡ line.now }
+    {
         Fields { rest: line }
     }
 
     // All that is left. A line's last field is read from this, so that nothing can follow it.
-    pub fn rest(self) -> &'a [u8] {
+    pub fn rest(self) -> &'a [u8]
+        ensures { result.now ≡ self.entry.rest.now }
+    {
         self.rest
     }
 
     // Takes the next field; empty where none is left.
-    pub fn take(&mut self) -> &'a [u8] {
-        let (field, rest) = split_at_byte(self.rest, b' ');
-        self.rest = rest;
+    pub fn take(&mut self) -> &'a [u8]
+        ensures shorter { 0 < length self.old.rest.now → length self.new.rest.now < length self.old.rest.now }
+        ensures parts { length result.now + length self.new.rest.now ≤ length self.old.rest.now }
+        ensures before { result.now ≡ before_byte space self.old.rest.now }
+        ensures after { self.new.rest.now ≡ after_byte space self.old.rest.now }
+    {
+        let (field, left) = split_at_byte(self.rest, b' ');
+        self.rest = left;
         field
     }
 
@@ -76,6 +91,8 @@ impl<'a> Fields<'a> {
     pub fn take_number<T: TryFrom<u64>>(&mut self) -> Result<T, TextError>
     where
         T::Error: Drop,
+        ensures never_longer { length self.new.rest.now ≤ length self.old.rest.now }
+        ensures taken { IfOk result (λ n. length self.new.rest.now < length self.old.rest.now) }
     {
         number(self.take())
     }
@@ -84,6 +101,7 @@ impl<'a> Fields<'a> {
     pub fn last_number<T: TryFrom<u64>>(self) -> Result<T, TextError>
     where
         T::Error: Drop,
+        ensures { IfOk result (λ n. 0 < length self.entry.rest.now) }
     {
         number(self.rest)
     }

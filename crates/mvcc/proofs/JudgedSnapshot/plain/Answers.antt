@@ -4,6 +4,6 @@ use Rattle.std.proofs.Common.{refl}
 use Rattle.mvcc.specs.Lists.{rising}
 use Rattle.mvcc.proofs.JudgedSnapshot.plain.Goals as goal
 
-pub invariant_of-result : goal.invariant_of-result
+pub new-requires : goal.new-requires
 unfolding rising
-invariant_of-result c = refl
+new-requires c = refl

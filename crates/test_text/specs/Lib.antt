@@ -1,0 +1,2 @@
+-- What a reader of the contracts of `test_text` has to believe.
+pub mod Cut
