@@ -8,8 +8,8 @@ pub fn copy_in(d: &mut [u8], at: usize, new: &[u8])
     requires { at + length new.now ≤ length d.old }
     ensures { d.new ≡ put at new.now d.old }
 {
-    for j in 0..new.len() {
-        d[at + j] = new[j];
+    for (j, byte) in new.iter().enumerate() {
+        d[at + j] = *byte;
     }
 }
 
